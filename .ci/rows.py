@@ -19,9 +19,12 @@ WORDS = {
     "A": "82" + REST,
     "B": "83" + REST,
     "GET": b"GET / HTTP/1.1\r\nhost: www.example.com\r\nvia: 2.0 h2gw\r\nconnection: close\r\n\r\n".hex(),
+    "GETKEPT": b"GET / HTTP/1.1\r\nhost: www.example.com\r\nvia: 2.0 h2gw\r\n\r\n".hex(),
     "POST": b"POST / HTTP/1.1\r\nhost: www.example.com\r\nvia: 2.0 h2gw\r\n".hex(),
     "CLOSE": b"\r\nconnection: close\r\n\r\n".hex(),
 }
+# The older rows where connections are kept: no growth is refused in their scripts, since they make hardly another than the older rows and `kept.rows`.
+OLDER = "kept_older.rows"
 # Of a script with more events, or of more characters, no growth is refused: there would be too many.
 MOST_EVENTS, MOST_CHARACTERS = 1_000, 150_000
 
@@ -90,13 +93,15 @@ def rows_of(text, known):
             yield known[name]
 
 
-def rows():
-    """All rows, file by file as `crates/transcripts/args` has them."""
+def rows(but=None):
+    """All rows, file by file as `crates/transcripts/args` has them, but those of one file."""
     known = {}
     with open(os.path.join(DATA, "../args")) as files:
         for file in files.read().split():
             with open(os.path.join(DATA, file)) as text:
-                yield from rows_of(text.read(), known)
+                found = list(rows_of(text.read(), known))
+            if file != but:
+                yield from found
 
 
 def config_of(row):
@@ -109,16 +114,18 @@ def config_of(row):
 
 
 def script_of(row):
-    """The script of a row. It begins with the authority of its route, where its configuration has one route alone and that has one."""
+    """The script of a row. It begins with `keep` where its configuration keeps connections, and then with the authority of its route, where that has one
+    route alone and that has one."""
     config = config_of(row)
+    keep = ["keep"] if "keep = true" in config else []
     authorities = re.findall(r'^authority = "(.*)"$', config, re.MULTILINE)
     route = [f"route {authority}" for authority in authorities if config.count("prefix") == 1]
-    return "\n".join(route + row.events)
+    return "\n".join(keep + route + row.events)
 
 
 def scripts():
     """The scripts in which growths are refused, each once, in the order of the rows."""
-    found = (script_of(row) for row in rows() if len(row.events) <= MOST_EVENTS)
+    found = (script_of(row) for row in rows(OLDER) if len(row.events) <= MOST_EVENTS)
     return list(dict.fromkeys(script for script in found if len(script) <= MOST_CHARACTERS))
 
 

@@ -6,6 +6,7 @@ use Rattle.offering.specs.Outbox.{trailers_at, Outbox, first_head, first_end, gr
 use Rattle.h1_reader.specs.HeadSizes.{field_octets}
 use Rattle.h1_reader.specs.Parts.{Part}
 use Rattle.h1_reader.specs.Standing.{State as Reader, Hears, is_done}
+use Rattle.h1_reader.specs.Keeps.{Learns}
 use Rattle.read_answers.specs.Telling.{interims_of, head_of, body_of, trailers_of, end_of, news_of, news_at_end}
 use Rattle.read_answers.proofs.Reading.{head_more, body_more, trailers_more}
 use Rattle.answers.specs.Waiting.{Answer, passing_in, limit_in, Waits, waiting, news_at_once, IsPast, IsWithin}
@@ -59,13 +60,14 @@ pub waited : (w : Way) (a n : Answer) (r : Reader) (head : Option Head) (body : 
 waited (way.Whole limit) a n r head body trailers is = (ap (λ (x : Answer). x.reader) is, ap (λ (x : Answer). x.way) is, ap (λ (x : Answer). x.head) is, ap (λ (x : Answer). x.body) is, ap (λ (x : Answer). x.trailers) is)
 waited way.Streaming a n r head body trailers is = (ap (λ (x : Answer). x.reader) is, ap (λ (x : Answer). x.way) is, ap (λ (x : Answer). x.head) is, ap (λ (x : Answer). x.body) is, ap (λ (x : Answer). x.trailers) is)
 
-pub goes_on : (a n : Answer) (octets : List ℕ) (added : List Part) (r : Reader) (box box' : Outbox) → Hears a.reader octets added r → length r.held.octets ≤ longest_section → field_octets r.held.connections ≤ longest_section → IsWithin a.way (a.body ++ body_of added) → is_done added ≡ false
+pub goes_on : (a n : Answer) (octets : List ℕ) (added : List Part) (r : Reader) (box box' : Outbox) → Hears a.reader octets added r → Learns a.reader octets r → length r.held.octets ≤ longest_section → field_octets r.held.connections ≤ longest_section → IsWithin a.way (a.body ++ body_of added) → is_done added ≡ false
     → n ≡ waiting (passing_in a.way) (reading a r) (head_of added) (body_of added) (trailers_of added) → box' ≡ grown box (news_at_once (passing_in a.way) added) → Tells a octets box false n box'
-goes_on a n octets added r box box' hears short named within on is offers =
+goes_on a n octets added r box box' hears learns short named within on is offers =
     let w = waited a.way a n r (head_of added) (body_of added) (trailers_of added) is in
     record {
       added = added;
       hears = subst (λ s. Hears a.reader octets added s) (sym w.0) hears;
+      learns = subst (λ s. Learns a.reader octets s) (sym w.0) learns;
       short = subst (λ (s : Reader). length s.held.octets ≤ longest_section) (sym w.0) short;
       few_named = subst (λ (s : Reader). field_octets s.held.connections ≤ longest_section) (sym w.0) named;
       same = w.1;
@@ -101,13 +103,14 @@ whole_news way.Streaming a n added parts done before waits =
     first_none None = refl
     first_none (Some head) = refl
 
-pub is_whole : (a n last : Answer) (octets : List ℕ) (added : List Part) (r : Reader) (box between box' : Outbox) → Hears a.reader octets added r → length r.held.octets ≤ longest_section → field_octets r.held.connections ≤ longest_section → IsWithin a.way (a.body ++ body_of added) → is_done added ≡ true
+pub is_whole : (a n last : Answer) (octets : List ℕ) (added : List Part) (r : Reader) (box between box' : Outbox) → Hears a.reader octets added r → Learns a.reader octets r → length r.held.octets ≤ longest_section → field_octets r.held.connections ≤ longest_section → IsWithin a.way (a.body ++ body_of added) → is_done added ≡ true
     → n ≡ waiting (passing_in a.way) (reading a r) (head_of added) (body_of added) (trailers_of added) → between ≡ grown box (news_at_once (passing_in a.way) added) → box' ≡ grown between (rest_news n) → last.reader ≡ n.reader → last.way ≡ n.way → Tells a octets box true last box'
-is_whole a n last octets added r box between box' hears short named within done is offers more reader_same way_same =
+is_whole a n last octets added r box between box' hears learns short named within done is offers more reader_same way_same =
     let w = waited a.way a n r (head_of added) (body_of added) (trailers_of added) is in
     record {
       added = added;
       hears = subst (λ s. Hears a.reader octets added s) (sym (reader_same ∙ w.0)) hears;
+      learns = subst (λ s. Learns a.reader octets s) (sym (reader_same ∙ w.0)) learns;
       short = subst (λ (s : Reader). length s.held.octets ≤ longest_section) (sym (reader_same ∙ w.0)) short;
       few_named = subst (λ (s : Reader). field_octets s.held.connections ≤ longest_section) (sym (reader_same ∙ w.0)) named;
       same = way_same ∙ w.1;

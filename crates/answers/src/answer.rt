@@ -1,8 +1,9 @@
 //! The answer of an upstream.
 
-ghost use Rattle.std.specs.Prelude.{◌≡◌, ◌+◌, ◌<◌, ◌≤◌, [], ◌++◌, ◌∷◌, true, false, None, Some, length, OnOk, IfOk};
+ghost use Rattle.std.specs.Prelude.{◌≡◌, ◌+◌, ◌<◌, ◌≤◌, ◌&&◌, ◌==◌, [], ◌++◌, ◌∷◌, true, false, None, Some, length, OnOk, IfOk};
 ghost use Rattle.offering.specs.Outbox.{trailers_at, grown};
 ghost use Rattle.h1_reader.specs.Standing.{is_end, is_done, Stands};
+ghost use Rattle.h1_reader.specs.Keeps.{Knows};
 ghost use Rattle.h1_reader.specs.Parts.Part.{Final, Body};
 ghost use Rattle.h1_reader.specs.Views.{part_of, parts_of};
 ghost use Rattle.h1_reader.specs.declared.reader.Place.TheVariants as place;
@@ -30,8 +31,10 @@ pub enum Passing {
 pub enum Heard {
     /// The response goes on.
     GoesOn,
-    /// It is whole with them.
-    Whole,
+    /// It is whole with them, no octet stands behind it, and it leaves the connection open (RFC 9112, sections 9.3 and 9.6).
+    Keepable,
+    /// It is whole with them, and the connection is of no more use.
+    Finished,
     /// It is no response, or its body is too long to be passed on whole.
     Failed,
 }
@@ -112,8 +115,9 @@ fn are_past(pieces: &[Piece], most: u64) -> bool
 impl Answer {
     /// Nothing has come of the response to a request, whose method is HEAD or isn't.
     pub fn new(alloc: Global, to_head: bool, passing: Passing) -> Answer
-        ensures is { result ≡ record { reader = record { to_head = to_head; place = place.Head 0; held = record { octets = []; connections = [] } }; way = passing; head = None; body = []; trailers = None } }
+        ensures is { result ≡ record { reader = record { to_head = to_head; place = place.Head 0; held = record { octets = []; connections = []; keeps = false } }; way = passing; head = None; body = []; trailers = None } }
         ensures stands { Stands [] [] result.reader }
+        ensures knows { Knows [] result.reader }
     {
         Answer {
             alloc,
@@ -140,22 +144,29 @@ impl Answer {
         ensures { IfOk result (λ heard. IsHeard self.old octets.now outbox.old heard self.new outbox.new) }
     {
         let mut pieces = Vec::new(self.alloc);
-        if let Err(fault) = self.reader.feed(octets, &mut pieces) {
-            if fault == ResponseFault::Memory {
-                return Err(AllocError);
+        let used = match self.reader.feed(octets, &mut pieces) {
+            Ok(used) => used,
+            Err(fault) => {
+                if fault == ResponseFault::Memory {
+                    return Err(AllocError);
+                }
+                return Ok(Heard::Failed);
             }
-            return Ok(Heard::Failed);
-        }
+        };
         if self.is_too_long(&pieces) {
             return Ok(Heard::Failed);
         }
+        let kept = self.is_kept(used, octets);
         let whole = is_whole(&pieces);
         self.take_all(pieces, outbox)?;
         if !whole {
             return Ok(Heard::GoesOn);
         }
         self.release(outbox)?;
-        Ok(Heard::Whole)
+        if kept {
+            return Ok(Heard::Keepable);
+        }
+        Ok(Heard::Finished)
     }
 
     /// What the end of the connection comes to (RFC 9112, sections 6.3 and 8). Where the response is whole with it, the rest of it is on
@@ -170,6 +181,13 @@ impl Answer {
             }
             h1_reader::Ended::Short => Ok(Ended::Short),
         }
+    }
+
+    /// Whether all octets were used, so that none stands behind a response that is whole with them, and its head lets the connection stay open.
+    fn is_kept(&self, used: usize, octets: &[u8]) -> bool
+        ensures { result ≡ (used == length octets.now && self.now.reader.held.keeps) }
+    {
+        used == octets.len() && self.reader.keeps()
     }
 
     /// Whether the body has more octets with these pieces than a response that is passed on whole may have.

@@ -80,7 +80,8 @@ pub(crate) fn encode_one(encoder: &mut Encoder, fields: &[Field], out: &mut Vec<
 /// Reads a response's head.
 fn read_one(alloc: Global, head: &[u8], pieces: &mut Vec<Piece>) -> Option<()> {
     let mut reader = Reader::new(alloc, false);
-    reader.feed(head, pieces).ok()
+    reader.feed(head, pieces).ok()?;
+    Some(())
 }
 
 /// The fields of a response's head.

@@ -31,7 +31,6 @@ servable entries config is =
       body = most _ config.max_body is.max_body;
       response = most _ config.max_response is.max_response;
       few = omega arith;
-      unkept = is.unkept;
     }
 
 pub servable_of : (found : Option Members) (config : Config) → Configures found config → IsServable (setup_of config)

@@ -8,18 +8,18 @@ use Rattle.configuration.specs.declared.faults.Key.{Key}
 use Rattle.configuration.specs.declared.faults.Key.TheVariants as key
 use Rattle.configuration.specs.declared.faults.ConfigFault.{ConfigFault}
 use Rattle.configuration.specs.declared.faults.ConfigFault.TheVariants.{NotToml, Bad, UnknownKey, Memory}
-use Rattle.configuration.specs.Keys.{text_at, number_at, array_at, IsPolicy, IsPassing, IsMost, AreTables, IsAuthority, IsPrefix, IsUpstream, IsRight}
+use Rattle.configuration.specs.Keys.{text_at, number_at, bool_at, array_at, IsPolicy, IsPassing, IsMost, IsKeep, AreTables, IsAuthority, IsPrefix, IsUpstream, IsRight}
 
 -- The keys in the order in which they are judged: those of the whole table, and those of each route.
 abbrev pub table_keys : List Key
-table_keys = key.Policy ∷ key.Passing ∷ key.MaxBody ∷ key.MaxResponse ∷ key.Route ∷ []
+table_keys = key.Policy ∷ key.Passing ∷ key.MaxBody ∷ key.MaxResponse ∷ key.Keep ∷ key.Route ∷ []
 
 abbrev pub route_keys : List Key
 route_keys = key.Authority ∷ key.Prefix ∷ key.Upstream ∷ []
 
 -- The names of the keys that the whole table and a route can have.
 abbrev pub table_names : List (List ℕ)
-table_names = codes "policy" ∷ codes "passing" ∷ codes "max_body" ∷ codes "max_response" ∷ codes "route" ∷ []
+table_names = codes "policy" ∷ codes "passing" ∷ codes "max_body" ∷ codes "max_response" ∷ codes "keep" ∷ codes "route" ∷ []
 
 abbrev pub route_names : List (List ℕ)
 route_names = codes "authority" ∷ codes "prefix" ∷ codes "upstream" ∷ []
@@ -56,8 +56,7 @@ pub record IsConfig (entries : Members) (config : Config) : Type 0 where
   pub passing : IsPassing (text_at (codes "passing") entries) config.passing
   pub max_body : IsMost (number_at (codes "max_body") entries) config.max_body
   pub max_response : IsMost (number_at (codes "max_response") entries) config.max_response
-  -- no table says that connections are kept
-  pub unkept : config.keep ≡ false
+  pub keep : IsKeep (bool_at (codes "keep") entries) config.keep
   pub tables : List Members
   pub are_tables : AreTables (array_at (codes "route") entries) tables
   pub routes : AreRoutes tables config.routes.items

@@ -1,8 +1,8 @@
 -- What the keys of a configuration say: one relation for each, from what stands at the key.
-use Rattle.std.specs.Prelude.{◌≡◌, ◌≤◌, ℕ, ℤ, pos, List, [], ◌++◌, length, map, Option, Some, None, option_map, codes}
+use Rattle.std.specs.Prelude.{◌≡◌, ◌≤◌, ℕ, ℤ, pos, Bool, false, List, [], ◌++◌, length, map, Option, Some, None, option_map, codes}
 use Rattle.std.specs.declared.net.socket_addr.SocketAddr.{SocketAddr}
 use Rattle.std.specs.Net.Grammar.{IsSocketText}
-use Rattle.toml.specs.Data.{Members, Items, table, get_member, as_str, as_integer, as_array}
+use Rattle.toml.specs.Data.{Members, Items, table, get_member, as_str, as_integer, as_bool, as_array}
 use Rattle.toml.specs.View.{items_of}
 use Rattle.gateway.specs.declared.config.Policy.{Policy}
 use Rattle.gateway.specs.declared.config.Policy.TheVariants.{Plain, Indexing}
@@ -15,12 +15,15 @@ use Rattle.configuration.specs.declared.faults.Key.TheVariants as key
 abbrev pub Lacks : {A : Type 0} → (A → Type 0) → Type 0
 Lacks {A} Is = (a : A) → Is a → ⊥
 
--- What stands at a key: nothing, or a value, which is a text or not. Numbers and arrays likewise.
+-- What stands at a key: nothing, or a value, which is a text or not. Numbers, truth values and arrays likewise.
 abbrev pub text_at : List ℕ → Members → Option (Option (List ℕ))
 text_at key entries = option_map as_str (get_member key entries)
 
 abbrev pub number_at : List ℕ → Members → Option (Option ℤ)
 number_at key entries = option_map as_integer (get_member key entries)
+
+abbrev pub bool_at : List ℕ → Members → Option (Option Bool)
+bool_at key entries = option_map as_bool (get_member key entries)
 
 abbrev pub array_at : List ℕ → Members → Option (Option Items)
 array_at key entries = option_map as_array (get_member key entries)
@@ -50,6 +53,11 @@ abbrev pub IsMost : Option (Option ℤ) → ℕ → Type 0
 IsMost None most = most ≡ 1048576
 IsMost (Some number) most = (number ≡ Some (pos most)) × (most ≤ 1073741824)
 
+-- `keep`: true or false, and false by default.
+abbrev pub IsKeep : Option (Option Bool) → Bool → Type 0
+IsKeep None keep = keep ≡ false
+IsKeep (Some value) keep = value ≡ Some keep
+
 -- `route`: an array of tables, and none by default. A route's place is a number of 32 bits, so there are at most 4,294,967,295.
 abbrev pub AreTables : Option (Option Items) → List Members → Type 0
 AreTables None tables = tables ≡ []
@@ -74,6 +82,7 @@ IsRight entries key.Policy = (policy : Policy) × IsPolicy (text_at (codes "poli
 IsRight entries key.Passing = (passing : Passing) × IsPassing (text_at (codes "passing") entries) passing
 IsRight entries key.MaxBody = (most : ℕ) × IsMost (number_at (codes "max_body") entries) most
 IsRight entries key.MaxResponse = (most : ℕ) × IsMost (number_at (codes "max_response") entries) most
+IsRight entries key.Keep = (keep : Bool) × IsKeep (bool_at (codes "keep") entries) keep
 IsRight entries key.Route = (tables : List Members) × AreTables (array_at (codes "route") entries) tables
 IsRight entries key.Authority = (authority : List ℕ) × IsAuthority (text_at (codes "authority") entries) authority
 IsRight entries key.Prefix = (prefix : List ℕ) × IsPrefix (text_at (codes "prefix") entries) prefix

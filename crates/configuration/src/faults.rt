@@ -16,6 +16,8 @@ pub enum Key {
     MaxBody,
     /// The most octets of a response's body.
     MaxResponse,
+    /// Whether upstream connections are kept.
+    Keep,
     /// The routes.
     Route,
     /// The authority of a route's requests.
@@ -51,6 +53,7 @@ impl ConfigFault {
             ConfigFault::Bad(Key::Passing) => "config: bad passing",
             ConfigFault::Bad(Key::MaxBody) => "config: bad max_body",
             ConfigFault::Bad(Key::MaxResponse) => "config: bad max_response",
+            ConfigFault::Bad(Key::Keep) => "config: bad keep",
             ConfigFault::Bad(Key::Route) => "config: bad route",
             ConfigFault::Bad(Key::Authority) => "config: bad authority",
             ConfigFault::Bad(Key::Prefix) => "config: bad prefix",

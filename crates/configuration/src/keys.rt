@@ -4,7 +4,7 @@ ghost use Rattle.std.specs.Prelude.{◌≡◌, List, map, MatchOption, is_some, 
 ghost use Rattle.std.specs.List.{list_all};
 ghost use Rattle.toml.specs.Data.{Members, get_member, as_table, table as as_data};
 ghost use Rattle.toml.specs.View.{view, table_view};
-ghost use Rattle.configuration.specs.Keys.{text_at as the_text, number_at as the_number, IsPolicy, IsPassing, IsMost, IsAuthority, IsPrefix, IsUpstream, array_at, AreTables, Lacks};
+ghost use Rattle.configuration.specs.Keys.{text_at as the_text, number_at as the_number, bool_at as the_bool, IsPolicy, IsPassing, IsMost, IsKeep, IsAuthority, IsPrefix, IsUpstream, array_at, AreTables, Lacks};
 
 use gateway::{Passing, Policy};
 use std::net::SocketAddr;
@@ -40,6 +40,16 @@ fn number_at(table: &Table, key: &str) -> Option<Option<i64>>
     }
 }
 
+/// Whether a key says yes or no, likewise.
+fn bool_at(table: &Table, key: &str) -> Option<Option<bool>>
+    ensures { result ≡ the_bool key.now (table_view table.now) }
+{
+    match value_at(table, key) {
+        None => None,
+        Some(value) => Some(value.as_bool()),
+    }
+}
+
 /// How header blocks are written.
 pub fn policy_in(table: &Table) -> Option<Policy>
     ensures { MatchOption result (Lacks (IsPolicy (the_text (codes "policy") (table_view table.now)))) (IsPolicy (the_text (codes "policy") (table_view table.now))) }
@@ -72,6 +82,16 @@ pub fn most_in(table: &Table, key: &str) -> Option<u64>
             Ok(most) if most <= 1_073_741_824 => Some(most),
             _ => None,
         },
+    }
+}
+
+/// Whether upstream connections are kept.
+pub fn keep_in(table: &Table) -> Option<bool>
+    ensures { MatchOption result (Lacks (IsKeep (the_bool (codes "keep") (table_view table.now)))) (IsKeep (the_bool (codes "keep") (table_view table.now))) }
+{
+    match bool_at(table, "keep") {
+        None => Some(false),
+        Some(keep) => keep,
     }
 }
 

@@ -12,7 +12,7 @@ ghost use Rattle.configuration.specs.Steps.{IsNoRoute, AreNoRoutes, is_only};
 
 use crate::faults::{ConfigFault, Key};
 use crate::keys::{
-    authority_in, most_in, passing_in, policy_in, prefix_in, routes_in, upstream_in,
+    authority_in, keep_in, most_in, passing_in, policy_in, prefix_in, routes_in, upstream_in,
 };
 use gateway::{Config, Route};
 use std::alloc::Global;
@@ -24,6 +24,7 @@ use toml::{Table, Value};
 /// - `passing`, how bodies are passed on: `"whole"`, the default, or `"streaming"`, as they come.
 /// - `max_body` and `max_response`, the most octets of a request's body, and of a response's where bodies are passed on whole: 0 to
 ///   1,073,741,824, and 1,048,576 by default.
+/// - `keep`, whether upstream connections are kept for further requests: `false`, the default, or `true`.
 /// - `route`, an array of at most 4,294,967,295 tables, none by default, each with
 ///   - `authority`, that of the requests: a text, empty by default, which is any authority;
 ///   - `prefix`, what their paths begin with: a text that begins with `/`;
@@ -66,6 +67,9 @@ fn read_table(alloc: Global, table: &Table) -> Result<Config, ConfigFault>
     let Some(max_response) = most_in(table, "max_response") else {
         return Err(ConfigFault::Bad(Key::MaxResponse));
     };
+    let Some(keep) = keep_in(table) else {
+        return Err(ConfigFault::Bad(Key::Keep));
+    };
     let Some(values) = routes_in(table) else {
         return Err(ConfigFault::Bad(Key::Route));
     };
@@ -85,7 +89,7 @@ fn read_table(alloc: Global, table: &Table) -> Result<Config, ConfigFault>
         passing,
         max_body,
         max_response,
-        keep: false,
+        keep,
     })
 }
 
@@ -134,7 +138,7 @@ fn is_table_key(name: &str) -> bool
 {
     matches!(
         name,
-        "policy" | "passing" | "max_body" | "max_response" | "route"
+        "policy" | "passing" | "max_body" | "max_response" | "keep" | "route"
     )
 }
 

@@ -1,6 +1,6 @@
 -- What may come by what is kept is what may come by the log, and the rooms that it tells are those of the log.
 use Rattle.std.proofs.Common.{◌≡◌, ℕ, true, false, Bool, not, ◌&&◌, if◌then◌else◌, List, [], length, Option, Some, None, refl, sym, ◌∙◌, ap, subst}
-use Rattle.std.specs.Prelude.{is_some}
+use Rattle.std.specs.Prelude.{is_some, option_map}
 use Rattle.std.proofs.lemmas.Bool.{and_parts}
 use Rattle.model.specs.Logs.{Event, Step, client_in}
 use Rattle.model.specs.Logs.Event.{Client, ClientEnd, ClientTook, Up, UpEnd, UpFailed, UpTook}
@@ -18,19 +18,24 @@ use Rattle.offering.specs.Held.{body_waiting}
 use Rattle.receiving.specs.Held.{body_in}
 use Rattle.receiving.specs.Rooms.{IsHeld, AreHeld}
 use Rattle.serving.specs.State as serving
-use Rattle.serving.specs.State.{find, live_of}
+use Rattle.serving.specs.Lines as lines
+use Rattle.serving.specs.Lines.{find, line_of, is_idle}
+use Rattle.serving.specs.Lines.Answer.{Pending as Partly, Idle, Done}
+use Rattle.serving.specs.Rule.{is_done_by, is_done}
 use Rattle.serving.specs.Meaning.{AreSo}
-use Rattle.serving.proofs.Clauses.{all_stand}
+use Rattle.serving.proofs.Clauses.{all_stand, none_done}
 use Rattle.serving.proofs.Connections.{connections_told}
 use Rattle.answers.specs.Waiting.{passing_in}
-use Rattle.upstreams.specs.Connections.{Connection, number_of}
+use Rattle.upstreams.specs.Connections.{Connection, number_of, lives}
 use Rattle.offers.specs.Asked.{held_if}
 use Rattle.policy.specs.Moves.{Move}
 use Rattle.policy.specs.State.{State, tape_of, conducts, turns_of}
 use Rattle.policy.proofs.Tapes.{requests_tape}
 use Rattle.policy.proofs.Placing.{turns_may, turns_so}
 use Rattle.relay.specs.View.{View, Pending, Leads}
-use Rattle.holding.proofs.Rooms.{HoldsFor, passed_on, holds_for}
+use Rattle.relay.specs.Rest.{told_view}
+use Rattle.relay.proofs.Lives.{lives_found}
+use Rattle.holding.proofs.Rooms.{HoldsFor, none_held, passed_on, holds_for}
 use Rattle.steps.specs.Admission.{is_up, takes_room, held_of, held_on, room_on, admits as admits_kept}
 use Rattle.steps.specs.Comings.{IsOver}
 use Rattle.steps.specs.Resting.{IsSettled}
@@ -51,19 +56,41 @@ module _ (setup : Setup) (run : List Move) (kept : View) (pending : Pending) (s 
   leads_known : Leads known.setup run kept pending s
   leads_known = subst (λ (x : Setup). Leads x run kept pending s) (sym same) leads
 
-  held_by : (k : ℕ) (c : Connection) → find number_of k kept.upstreams.live ≡ Some c → IsHeld known.setup.passing known (tape_of run) k (takes_room (passing_in c.answer.way) kept.offers c.live.stream)
-  held_by k c found = by known.setup.passing refl
-    where
-      passed : passing_in c.answer.way ≡ known.setup.passing
-      passed = passed_on known run kept pending s leads_known knows settled.rest.none_cut settled.rest.none_done k c found
+  module _ (k : ℕ) (c : Connection) (found : find number_of k kept.upstreams.live ≡ Some c) where
+    -- of one that is idle nothing takes room
+    idle_held : c.live.answer ≡ Idle → (passing : Passing) → known.setup.passing ≡ passing → IsHeld passing known (tape_of run) k 0
+    idle_held is Whole by_it = refl
+    idle_held is Streaming by_it = none_held known run kept pending s leads_known knows settled.rest.none_cut settled.rest.none_done k c found is
 
-      by : (passing : Passing) → known.setup.passing ≡ passing → IsHeld passing known (tape_of run) k (takes_room (passing_in c.answer.way) kept.offers c.live.stream)
-      by Whole is = ap (λ p. takes_room p kept.offers c.live.stream) (passed ∙ is)
-      by Streaming is =
-          let h : HoldsFor known (tape_of run) k c.live.stream kept.offers.kept = holds_for known run kept pending s leads_known knows settled.rest.none_cut settled.rest.none_done k c found is in
-          let count : length (body_in h.box.box) ≡ takes_room (passing_in c.answer.way) kept.offers c.live.stream =
-          same_body h.box.box ∙ sym (ap held_if h.found) ∙ sym (ap (λ p. takes_room p kept.offers c.live.stream) (passed ∙ is)) in
-          subst (IsHeld Streaming known (tape_of run) k) count h.holds
+    partly_held : c.live.answer ≡ Partly → (passing : Passing) → known.setup.passing ≡ passing → IsHeld passing known (tape_of run) k (takes_room (passing_in c.answer.way) kept.offers c.live.stream)
+    partly_held is passing by_it = by passing by_it
+      where
+        passed : passing_in c.answer.way ≡ known.setup.passing
+        passed = passed_on known run kept pending s leads_known knows settled.rest.none_cut settled.rest.none_done k c found is
+
+        by : (p : Passing) → known.setup.passing ≡ p → IsHeld p known (tape_of run) k (takes_room (passing_in c.answer.way) kept.offers c.live.stream)
+        by Whole whole = ap (λ p. takes_room p kept.offers c.live.stream) (passed ∙ whole)
+        by Streaming streaming =
+            let h : HoldsFor known (tape_of run) k c.live.stream kept.offers.kept = holds_for known run kept pending s leads_known knows settled.rest.none_cut settled.rest.none_done k c found is streaming in
+            let count : length (body_in h.box.box) ≡ takes_room (passing_in c.answer.way) kept.offers c.live.stream =
+            same_body h.box.box ∙ sym (ap held_if h.found) ∙ sym (ap (λ p. takes_room p kept.offers c.live.stream) (passed ∙ streaming)) in
+            subst (IsHeld Streaming known (tape_of run) k) count h.holds
+
+    -- none is done with
+    goes_on : c.live.answer ≡ Done → ⊥
+    goes_on is =
+        let none : is_done (told_view kept) c.live ≡ false =
+        none_done (told_view kept) k (lives kept.upstreams.live) c.live settled.rest.none_done (lives_found k kept.upstreams.live ∙ ap (option_map (λ (x : Connection). x.live)) found) in
+        let clash : true ≡ false = sym (ap (λ a. is_done_by a ((told_view kept).served c.live.stream)) is) ∙ none in
+        cc
+
+    held_by : IsHeld known.setup.passing known (tape_of run) k (held_of kept.offers (Some c))
+    held_by = by c.live.answer refl
+      where
+        by : (a : lines.Answer) → c.live.answer ≡ a → IsHeld known.setup.passing known (tape_of run) k (if is_idle a then 0 else takes_room (passing_in c.answer.way) kept.offers c.live.stream)
+        by Partly is = partly_held is known.setup.passing refl
+        by Idle is = idle_held is known.setup.passing refl
+        by Done is = absurd (goes_on is)
 
   held_there : (k : ℕ) → is_up kept k ≡ true → IsHeld known.setup.passing known (tape_of run) k (held_on kept k)
   held_there k up = by (find number_of k kept.upstreams.live) refl up
@@ -105,7 +132,7 @@ module _ (setup : Setup) (run : List Move) (kept : View) (pending : Pending) (s 
 module _ (setup : Setup) (partial text : List ℕ) (kept : View) (run : List Move) where
   -- behind the client's close no connection is open
   over_up : (k : ℕ) → IsOver setup run → false ≡ admission.is_open k (tape_of run)
-  over_up k over = sym (ap (λ l. is_some (live_of k l)) none) ∙ told ∙ ap (λ (t : List Entry). admission.is_open k t) (requests_tape setup run)
+  over_up k over = sym (ap (λ l. is_some (line_of k l)) none) ∙ told ∙ ap (λ (t : List Entry). admission.is_open k t) (requests_tape setup run)
     where
       known : Known
       known = known_of setup (conducts run)
@@ -116,7 +143,7 @@ module _ (setup : Setup) (partial text : List ℕ) (kept : View) (run : List Mov
       so : AreSo known (turns_of setup run)
       so = turns_so known run knows over.allowed (over.so known refl knows)
 
-      told : is_some (live_of k (serving.state_of setup (turns_of setup run)).live) ≡ admission.is_open k (serving.tape_of (turns_of setup run))
+      told : is_some (line_of k (serving.state_of setup (turns_of setup run)).live) ≡ admission.is_open k (serving.tape_of (turns_of setup run))
       told = connections_told known (turns_of setup run) (turns_may setup run over.allowed) so k
 
       none : (serving.state_of setup (turns_of setup run)).live ≡ []

@@ -76,18 +76,18 @@ greets_first g kept out p new settled nothing performs puts counts = record {
 -- ---- other events
 
 -- An event that isn't of the client's octets comes to what is told of it: all but what is kept stays.
-pub hears_by : (old : Standing) (kept : View) (went : Went) (o p : List Output) (event told : Event) → told ≡ event → listed event ≡ event ∷ [] → ((setup : Setup) → ComesFrom setup old.kept square o (OfEvent event ∷ []) square (now_of went kept) p)
+pub hears_by : (old : Standing) (kept : View) (went : Went) (o p : List Output) (event told : Event) → told ≡ event → listed event ≡ event ∷ [] → ((setup : Setup) → Serves setup old → ComesFrom setup old.kept square o (OfEvent event ∷ []) square (now_of went kept) p)
     → Happens old (record old { kept = kept }) went o p told
 hears_by old kept went o p event told same others comes = subst (Happens old (record old { kept = kept }) went o p) (sym same) (by event others comes)
   where
-    by : (e : Event) → listed e ≡ e ∷ [] → ((setup : Setup) → ComesFrom setup old.kept square o (OfEvent e ∷ []) square (now_of went kept) p) → Happens old (record old { kept = kept }) went o p e
+    by : (e : Event) → listed e ≡ e ∷ [] → ((setup : Setup) → Serves setup old → ComesFrom setup old.kept square o (OfEvent e ∷ []) square (now_of went kept) p) → Happens old (record old { kept = kept }) went o p e
     by (Client piece) others comes = absurd (let no : [] ≡ Client piece ∷ [] = others in cc)
-    by ClientEnd others comes = record { comes = λ setup serves. comes setup; stays = refl }
-    by (ClientTook count) others comes = record { comes = λ setup serves. comes setup; stays = refl }
-    by (Up k octets) others comes = record { comes = λ setup serves. comes setup; stays = refl }
-    by (UpEnd k) others comes = record { comes = λ setup serves. comes setup; stays = refl }
-    by (UpFailed k) others comes = record { comes = λ setup serves. comes setup; stays = refl }
-    by (UpTook k count) others comes = record { comes = λ setup serves. comes setup; stays = refl }
+    by ClientEnd others comes = record { comes = comes; stays = refl }
+    by (ClientTook count) others comes = record { comes = comes; stays = refl }
+    by (Up k octets) others comes = record { comes = comes; stays = refl }
+    by (UpEnd k) others comes = record { comes = comes; stays = refl }
+    by (UpFailed k) others comes = record { comes = comes; stays = refl }
+    by (UpTook k count) others comes = record { comes = comes; stays = refl }
 
 -- ---- what is read
 
@@ -99,9 +99,9 @@ takes_fewer serves fewer only old o text rest now o' t = record { frames = t.fra
 pub wait_behind : (before behind text : List ℕ) (used : ℕ) → before ≡ [] → behind ≡ before ++ take (length text - used) (drop used text) → behind ≡ drop used text
 wait_behind before behind text used none is = is ∙ ap (λ (x : List ℕ). x ++ take (length text - used) (drop used text)) none ∙ slice_rest text used
 
-module _ (old : Standing) (service : Service) (routes : old.routes ≡ service.terms.routes.now) (body : old.max_body ≡ service.terms.max_body) (passing : old.passing ≡ service.passing) (o o' : List Output) (text : List ℕ) where
+module _ (old : Standing) (service : Service) (routes : old.routes ≡ service.terms.routes.now) (body : old.max_body ≡ service.terms.max_body) (passing : old.passing ≡ service.passing) (keep : old.keep ≡ service.keep) (o o' : List Output) (text : List ℕ) where
   served : (setup : Setup) → Serves setup old → IsServed setup service
-  served setup s = record { terms = record { routes = s.routes ∙ routes; max_body = s.max_body ∙ body }; passing = subst (IsPassedBy setup) passing s.passing }
+  served setup s = record { terms = record { routes = s.routes ∙ routes; max_body = s.max_body ∙ body }; passing = subst (IsPassedBy setup) passing s.passing; keep = sym keep ∙ s.keep }
 
   -- the connection goes on
   pub reads_rest : (kept : View) (partial : List ℕ) (answer : Read) (used : ℕ) → answer ≡ read.Rest used → partial ≡ drop used text → Reads (λ setup. IsServed setup service) old.kept o text answer kept o'
@@ -139,7 +139,7 @@ module _ (old new : Standing) (waited : List ℕ) (o o' : List Output) where
   reads_waited : (went : Went) (behind : List ℕ) → ReadsOn (record old { partial = waited }) new went o o' behind → ReadsOn old new went o o' behind
   reads_waited went behind r = record {
     rest = r.rest;
-    takes = takes_fewer (λ setup. Serves setup (record old { partial = waited })) (λ setup. Serves setup old) (λ setup s. record { servable = s.servable; routes = s.routes; max_body = s.max_body; passing = s.passing }) old.kept o behind r.rest (now_of went new.kept) o' r.takes;
+    takes = takes_fewer (λ setup. Serves setup (record old { partial = waited })) (λ setup. Serves setup old) (λ setup s. record { servable = s.servable; routes = s.routes; max_body = s.max_body; passing = s.passing; keep = s.keep }) old.kept o behind r.rest (now_of went new.kept) o' r.takes;
     keeps = keeps_waited went r.rest r.keeps;
   }
 

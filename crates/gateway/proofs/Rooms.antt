@@ -21,7 +21,7 @@ use Rattle.conduct.specs.Rule.{known_of}
 use Rattle.conduct.proofs.Knowing.{known_so}
 use Rattle.offering.specs.State as offering
 use Rattle.serving.specs.State as serving
-use Rattle.serving.specs.State.{find}
+use Rattle.serving.specs.Lines.{find}
 use Rattle.serving.proofs.Lists.{found_key}
 use Rattle.upstreams.specs.Connections.{Connection, number_of, lives, AreBelow, AreRising}
 use Rattle.outputs.specs.Views.{output_of, outputs_of}

@@ -48,7 +48,7 @@ module _ (setup : Setup) (kept : View) (book : book_of (record { given = []; unt
     fits = λ known same knows. tt;
     is_in = rw (of_phase, of_partial, of_kept) (record {
       state = policy.state_of setup [];
-      leads = first_leads setup serves.servable.unkept kept book offers upstreams table encoding marks untaken;
+      leads = first_leads setup kept book offers upstreams table encoding marks untaken;
       settled = first_settled;
       octets = record { front = record { next = 80; rest = 82 ∷ 73 ∷ 32 ∷ 42 ∷ 32 ∷ 72 ∷ 84 ∷ 84 ∷ 80 ∷ 47 ∷ 50 ∷ 46 ∷ 48 ∷ 13 ∷ 10 ∷ 13 ∷ 10 ∷ 83 ∷ 77 ∷ 13 ∷ 10 ∷ 13 ∷ 10 ∷ []; is = refl }; all = refl; no_frame = refl };
       unbroken = refl;

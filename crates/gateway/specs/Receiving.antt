@@ -74,6 +74,7 @@ pub record KeepsTerms (old new : Standing) : Type 0 where
   pub routes : new.routes ≡ old.routes
   pub max_body : new.max_body ≡ old.max_body
   pub passing : new.passing ≡ old.passing
+  pub keep : new.keep ≡ old.keep
 
 -- Where the connection goes on, something may come in.
 abbrev pub IsSettledIf : Went → View → Type 0

@@ -1,5 +1,5 @@
 -- The configuration without where it lies in memory.
-use Rattle.std.specs.Prelude.{◌≡◌, ◌≤◌, false, length, map}
+use Rattle.std.specs.Prelude.{◌≤◌, length, map}
 use Rattle.model.specs.Setup as setup
 use Rattle.model.specs.Setup.{Setup}
 use Rattle.gateway.specs.declared.config.Config.{Config}
@@ -30,9 +30,8 @@ setup_of config = record {
   keep = config.keep;
 }
 
--- What a gateway can be set up with: maxima within their limits, no more routes than have a number, and no connection is kept.
+-- What a gateway can be set up with: maxima within their limits, and no more routes than have a number.
 pub record IsServable (setup : Setup) : Type 0 where
   pub body : setup.max_body ≤ 1073741824
   pub response : setup.max_response ≤ 1073741824
   pub few : length setup.routes ≤ 4294967295
-  pub unkept : setup.keep ≡ false

@@ -32,12 +32,13 @@ IsStart text start.Wrong = IsNoPreface text
 
 -- ---- what a gateway is seen as
 
--- By what requests are judged, and how bodies are passed on; how far the connection is; the octets of the client that aren't read; and
--- what is kept.
+-- By what requests are judged, how bodies are passed on, and whether connections to upstreams are kept; how far the connection is; the octets of the client
+-- that aren't read; and what is kept.
 pub record Standing : Type 0 where
   pub routes : List Route
   pub max_body : ℕ
   pub passing : Passing
+  pub keep : Bool
   pub phase : Phase
   pub partial : List ℕ
   pub kept : View
@@ -48,6 +49,7 @@ pub record Serves (setup : Setup) (g : Standing) : Type 0 where
   pub routes : setup.routes ≡ g.routes
   pub max_body : setup.max_body ≡ g.max_body
   pub passing : IsPassedBy setup g.passing
+  pub keep : g.keep ≡ setup.keep
 
 -- whether something may come in: the client wasn't closed, and memory wasn't refused
 abbrev pub is_open : Phase → Bool

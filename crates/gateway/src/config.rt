@@ -52,7 +52,7 @@ pub struct Config {
     pub max_body: u64,
     /// The most octets of the body of a response that is passed on whole, at most 1,073,741,824.
     pub max_response: u64,
-    /// Whether upstream connections are kept for further requests. They aren't yet: a gateway serves by a configuration that says no.
+    /// Whether upstream connections are kept for further requests (RFC 9112, section 9.3).
     pub keep: bool,
 }
 

@@ -11,7 +11,7 @@ ghost use Rattle.model.specs.Rooms.{IsAdmitted};
 ghost use Rattle.conduct.specs.Rule.{known_of};
 ghost use Rattle.answers.specs.Waiting.{passing_in};
 ghost use Rattle.outputs.specs.Views.{event_of, output_of, outputs_of};
-ghost use Rattle.serving.specs.State.{find};
+ghost use Rattle.serving.specs.Lines.{find};
 ghost use Rattle.upstreams.specs.Connections.{number_of};
 ghost use Rattle.steps.specs.Admission.{is_up, may_take, room_of as room_for, room_on, admits as admits_kept};
 ghost use Rattle.policy.specs.Moves.{Move};
@@ -65,10 +65,13 @@ pub enum Fault {
 }
 
 /// How many octets of an open connection may come in one event: where its response is passed on as it comes, those of the body that
-/// wait for its stream take room. Its stream is looked for at `guess` first, which then is the place behind it.
+/// wait for its stream take room, unless it is idle. Its stream is looked for at `guess` first, which then is the place behind it.
 fn room_of(offers: &Offers, connection: &upstreams::Connection, guess: &mut usize) -> usize
     ensures { result ≡ room_for offers.now (Some connection.now) }
 {
+    if connection.is_idle() {
+        return ROOM;
+    }
     match connection.passing() {
         Passing::Whole(_) => ROOM,
         Passing::Streaming => ROOM.saturating_sub(offers.held(connection.stream(), guess)),
@@ -143,6 +146,7 @@ pub struct Gateway {
     routes: Vec<Route>,
     max_body: u64,
     passing: Passing,
+    keep: bool,
     phase: Phase,
     partial: Vec<u8>,
     rooms: Rooms,
@@ -154,12 +158,12 @@ impl Model for Gateway {
     ghost Value = { Standing };
 
     // Each field is named, so that what one more holds has to be said here.
-    ghost view = { λ record { alloc = alloc; routes = routes; max_body = max_body; passing = passing; phase = phase; partial = partial; rooms = rooms }. record { routes = routes.items; max_body = max_body; passing = passing; phase = phase; partial = partial.items; kept = rooms } };
+    ghost view = { λ record { alloc = alloc; routes = routes; max_body = max_body; passing = passing; keep = keep; phase = phase; partial = partial; rooms = rooms }. record { routes = routes.items; max_body = max_body; passing = passing; keep = keep; phase = phase; partial = partial.items; kept = rooms } };
 }
 
 impl Gateway {
     /// A gateway for a new connection of a client, to which nothing came. The maxima are at most 1,073,741,824, and there are at most
-    /// 4,294,967,295 routes; upstream connections aren't kept. An `Err` says that memory was refused.
+    /// 4,294,967,295 routes. An `Err` says that memory was refused.
     pub fn new(alloc: Global, config: &Config) -> Result<Gateway, AllocError>
         requires { IsServable (setup_of config.now) }
         ensures { IfOk result (λ gateway. Stands (setup_of config.now) gateway [] []) }
@@ -170,6 +174,7 @@ impl Gateway {
             routes,
             max_body: config.max_body,
             passing: config.passing_on(),
+            keep: config.keep,
             phase: Phase::New,
             partial: Vec::new(alloc),
             rooms: Rooms {
@@ -246,7 +251,7 @@ impl Gateway {
     }
 
     /// How many octets of an upstream may come in one event while its connection is open: 65,536, and where responses are passed on as
-    /// they come fewer by those of its body that weren't sent to the client yet. Else none, and none once memory was refused.
+    /// they come fewer by those of its body that weren't sent to the client yet, unless it is idle. Else none, and none once memory was refused.
     pub fn room(&self, k: u32) -> usize
         ensures state { result ≡ room_of self.now k }
         // It is what the log tells that the gateway stands for.
@@ -414,6 +419,7 @@ impl Gateway {
         ensures rests { IfOk result (λ went. IsSettledIf went self.new.kept) }
     {
         let alloc = self.alloc;
+        let keep = self.keep;
         let rooms = &mut self.rooms;
         match event {
             Event::Client(piece) => self.take_piece(piece, out),
@@ -422,7 +428,7 @@ impl Gateway {
                 Ok(Went::Over)
             }
             Event::ClientTook(count) => client_took(alloc, rooms, *count, out),
-            Event::Up(k, octets) => hear(alloc, rooms, *k, octets, out),
+            Event::Up(k, octets) => hear(alloc, rooms, *k, octets, keep, out),
             Event::UpEnd(k) => end(alloc, rooms, *k, out),
             Event::UpFailed(k) => fail(alloc, rooms, *k, out),
             Event::UpTook(k, count) => up_took(alloc, rooms, *k, *count, out),
@@ -511,6 +517,7 @@ impl Gateway {
         let service = Service {
             terms,
             passing: self.passing,
+            keep: self.keep,
         };
         self.phase = Phase::Frames;
         match take_frames(self.alloc, &mut self.rooms, text, service, out)? {

@@ -23,7 +23,7 @@ pub enum RunFault {
 }
 
 /// Runs a gateway over events, and answers what it put out at each. The maxima are at most 1,073,741,824, and there are at most
-/// 4,294,967,295 routes; upstream connections aren't kept.
+/// 4,294,967,295 routes. Upstream connections are kept or not, as the configuration says.
 pub fn run(alloc: Global, config: &Config, events: &[Event]) -> Result<Vec<Vec<Output>>, RunFault>
     requires { IsServable (setup_of config.now) }
     // The log of the events and of what was put out has the headline, and behind it tables are in step, for any events, however the octets are cut.

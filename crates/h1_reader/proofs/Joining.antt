@@ -1,18 +1,17 @@
 -- How steps go on, and octets of a body that are joined to those before them.
-use Rattle.std.proofs.Common.{◌≡◌, ℕ, ◌<◌, ◌≤◌, Bool, List, [], ◌∷◌, ◌++◌, length, map, take, drop, get_or, refl, sym, ap, ◌∙◌, subst, append_assoc, inl, inr, arith}
-use Rattle.std.specs.Prelude.{◌==◌, true, Result, Ok, Err, IfOk}
+use Rattle.std.proofs.Common.{◌≡◌, ℕ, ◌<◌, ◌≤◌, Bool, List, [], ◌∷◌, ◌++◌, length, map, take, get_or, refl, sym, ap, ◌∙◌, subst, append_assoc, inl, inr, arith}
+use Rattle.std.specs.Prelude.{Result, Ok, Err, IfOk}
 use Rattle.std.specs.List.{concat}
-use Rattle.std.proofs.lemmas.List.{append-nil, take_all, take-append-drop}
+use Rattle.std.proofs.lemmas.List.{append-nil, take_all}
 use Rattle.model.specs.ResponseHeads as model
 use Rattle.h1_reader.specs.Parts.{Part}
 use Rattle.h1_reader.specs.Parts.Part.{Interim, Final, Body}
 use Rattle.h1_reader.specs.Standing.{State, InChunked, Stands, StandsAt, Hears}
 use Rattle.h1_reader.specs.GoesOn.{GoesOn, IsJoined}
-use Rattle.h1_reader.specs.Faults.{FaultStands, Fails}
 use Rattle.response_texts.specs.declared.fault.ResponseFault.{ResponseFault}
 use Rattle.h1_reader.specs.declared.reader.Place.{Place}
 use Rattle.h1_reader.specs.declared.reader.Place.TheVariants.{Chunk, ChunkEnd}
-use Rattle.h1_reader.proofs.Steps.{nil_of, hears_none}
+use Rattle.h1_reader.proofs.Steps.{hears_none}
 
 -- ---- steps
 
@@ -54,32 +53,6 @@ first_goes old new said (octet ∷ octets) (Ok used) some h =
       omega arith,
       subst (λ n. GoesOn old said (take n (octet ∷ octets)) new said) (sym one) (goes_on old new said said (octet ∷ []) ([], sym (append-nil said), h.1)),
     )
-
--- so many octets were taken of all
-abbrev pub GoneOn : State → List Part → List ℕ → List ℕ → State → List Part → Type 0
-GoneOn old said octets rest new says = (taken : List ℕ) × (octets ≡ taken ++ rest) × GoesOn old said taken new says
-
-pub gone_none : (a : State) (said : List Part) (octets : List ℕ) → GoneOn a said octets octets a said
-gone_none a said octets = ([], refl, goes_nowhere a said)
-
-pub gone_more : (a b c : State) (p q r : List Part) (octets rest : List ℕ) (used : ℕ) → GoneOn a p octets rest b q → GoesOn b q (take used rest) c r → GoneOn a p octets (drop used rest) c r
-gone_more a b c p q r octets rest used i h = (
-  i.0 ++ take used rest,
-  i.1 ∙ ap (λ (o : List ℕ). i.0 ++ o) (sym (take-append-drop used rest)) ∙ sym (append_assoc i.0 (take used rest) (drop used rest)),
-  goes_then a b c p q r i.0 (take used rest) i.2 h,
-)
-
-pub gone_all : (a b : State) (p q : List Part) (octets rest : List ℕ) → GoneOn a p octets rest b q → (length rest == 0) ≡ true → GoesOn a p octets b q
-gone_all a b p q octets rest i e =
-    let all : octets ≡ i.0 = i.1 ∙ ap (λ (o : List ℕ). i.0 ++ o) (nil_of rest e) ∙ append-nil i.0 in
-    subst (λ (o : List ℕ). GoesOn a p o b q) (sym all) i.2
-
-pub gone_fails : (a b : State) (p q : List Part) (f : ResponseFault) (octets rest : List ℕ) → p ≡ [] → GoneOn a p octets rest b q → Fails b rest f → Fails a octets f
-gone_fails a b p q f octets rest nothing i h text before s =
-    let from : before ≡ before ++ p = sym (append-nil before) ∙ ap (λ (o : List Part). before ++ o) (sym nothing) in
-    let there : FaultStands f ((text ++ i.0) ++ rest) b.to_head = h (text ++ i.0) (before ++ q) (i.2.stands text before (subst (λ (o : List Part). Stands text o a) from s)) in
-    let whole : (text ++ i.0) ++ rest ≡ text ++ octets = append_assoc text i.0 rest ∙ ap (λ (o : List ℕ). text ++ o) (sym i.1) in
-    subst (λ (o : List ℕ). FaultStands f o a.to_head) whole (subst (λ (t : Bool). FaultStands f ((text ++ i.0) ++ rest) t) i.2.same there)
 
 -- ---- joined octets
 

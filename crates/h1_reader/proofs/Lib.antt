@@ -3,6 +3,8 @@ pub mod ChunkSteps
 pub mod ChunkEnds
 pub mod Joining
 pub mod Ends
+pub mod Ending
+pub mod KeepSteps
 pub mod Telling
 pub mod Noticed
 pub mod Hopes
@@ -11,3 +13,4 @@ pub mod FaultSteps
 pub mod FaultLaws
 pub mod OneFault
 pub mod ToldLaws
+pub mod Keepable

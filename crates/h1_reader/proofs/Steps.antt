@@ -143,7 +143,7 @@ state_of to_head place held = record { to_head = to_head; place = place; held = 
 
 -- these octets are held, and the fields that were
 abbrev pub with_octets : List ℕ → Held → Held
-with_octets octets held = record { octets = octets; connections = held.connections }
+with_octets octets held = record { octets = octets; connections = held.connections; keeps = held.keeps }
 
 -- the reader goes to a place, holding this
 pub arrives : (new : State) (to_head : Bool) (place : Place) (held : Held) (text : List ℕ) (parts : List Part) → new ≡ state_of to_head place held → StandsAt place to_head held text parts → Stands text parts new

@@ -116,7 +116,7 @@ rest_framed framing rest body trailers e w =
     let open_end : HasBody IsUntilEnd false rest body trailers = subst (λ (f : model.Framing). HasBody f false rest body trailers) (sym e) w in
     false_true open_end.0
 
-rest_short : (to_head : Bool) (text : List ℕ) (parts : List Part) → InRest to_head text parts → IsComplete text false to_head → ⊥
+pub rest_short : (to_head : Bool) (text : List ℕ) (parts : List Part) → InRest to_head text parts → IsComplete text false to_head → ⊥
 rest_short to_head text parts b whole =
     let p = whole.1 in
     let same = one_front to_head b.body.front p.front b.body.head_text p.head_text b.octets p.rest b.body.interims whole.0.interims b.body.head whole.0.head IsUntilEnd p.framing

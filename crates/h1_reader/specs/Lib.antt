@@ -3,6 +3,8 @@ pub mod Views
 pub mod PartSizes
 pub mod Standing
 pub mod GoesOn
+pub mod Uses
+pub mod Keeps
 pub mod Begins
 pub mod Faults
 pub mod Told
@@ -12,3 +14,4 @@ pub use Rattle.response_texts.specs.SectionFaults
 pub use Rattle.model.specs.Messages
 pub use Rattle.model.specs.ResponseHeads
 pub use Rattle.model.specs.Responses
+pub use Rattle.model.specs.Idle

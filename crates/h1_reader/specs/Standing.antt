@@ -17,10 +17,12 @@ use Rattle.h1_reader.specs.declared.reader.Ended.{Ended}
 use Rattle.h1_reader.specs.declared.reader.Ended.TheVariants.{Complete, Short}
 use Rattle.h1_reader.specs.declared.reader.Place.TheVariants.{Head, Sized, UntilEnd, Line, Chunk, ChunkEnd, ChunkReturn, Trailers, Past, Broken}
 
--- What is held: the octets that begin no head or no trailers yet, and the fields Connection of the final head.
+-- What is held: the octets that begin no head or no trailers yet, the fields Connection of the final head, and whether that lets its
+-- connection stay open.
 pub record Held : Type 0 where
   pub octets : List ℕ
   pub connections : List Field
+  pub keeps : Bool
 
 -- the names that these fields gave (RFC 9110, section 7.6.1)
 abbrev pub names_held : Held → List (List ℕ)

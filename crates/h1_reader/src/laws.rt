@@ -1,12 +1,15 @@
 //! What it means to stand for octets and pieces.
 
-ghost use Rattle.std.specs.Prelude.{◌≡◌, ◌≤◌, ◌++◌, ℕ, Bool, true, false, List, [], length, is_some};
+ghost use Rattle.std.specs.Prelude.{◌≡◌, ◌≤◌, ◌++◌, ◌&&◌, ◌==◌, ℕ, Bool, true, false, List, [], length, is_some};
 ghost use Rattle.model.specs.ResponseHeads.{Head, Framing, Interim, Final};
 ghost use Rattle.model.specs.Responses.{IsComplete, IsSpoilt, IsPlainlyBad, Seen};
 ghost use Rattle.h1_reader.specs.Parts.{Part};
 ghost use Rattle.response_texts.specs.HeadSizes.{field_octets};
 ghost use Rattle.h1_reader.specs.PartSizes.{HeadsAreShort};
-ghost use Rattle.h1_reader.specs.Standing.{State, Stands, IsInBody, Tells, TellsWhole, is_done};
+ghost use Rattle.h1_reader.specs.Standing.{State, Stands, Hears, IsInBody, Tells, TellsWhole, is_done};
+ghost use Rattle.model.specs.Idle.{LeavesOpen};
+ghost use Rattle.h1_reader.specs.Uses.{NoneShorter, Uses};
+ghost use Rattle.h1_reader.specs.Keeps.{Knows, Learns};
 ghost use Rattle.h1_reader.specs.Told.{interims_of, head_of, body_of, IsWholeOf};
 ghost use Rattle.h1_reader.specs.Faults.{FaultStands};
 ghost use Rattle.response_texts.specs.declared.fault.ResponseFault.{ResponseFault};
@@ -56,4 +59,18 @@ pub fn head_sizes()
 pub fn faults_are_noticed()
     ensures noticed { (text : List ℕ) (parts : List Part) (state : State) → Stands text parts state → IsPlainlyBad text state.to_head → ⊥ }
     ensures early { (text : List ℕ) (parts : List Part) (state : State) → Stands text parts state → IsInBody state.place → IsSpoilt text state.to_head → ⊥ }
+{}
+
+/// A reader that knows of the final head whether it lets its connection stay open tells so of a whole response: where no octet stands
+/// behind it (`feed` uses none), the connection may be kept just where `keeps` is told (RFC 9112, sections 9.3 and 9.6).
+pub fn what_is_kept()
+    ensures may { (text : List ℕ) (parts : List Part) (state : State) → Stands text parts state → Knows text state → is_done parts ≡ true → NoneShorter text state.to_head → state.held.keeps ≡ true → LeavesOpen text state.to_head }
+    ensures must { (text : List ℕ) (state : State) → Knows text state → LeavesOpen text state.to_head → state.held.keeps ≡ true }
+{}
+
+/// So what `feed` answers tells whether the connection may be kept behind a response that becomes whole with the octets: where all of them were used, and
+/// `keeps` is told, it may; and else it may not, whatever stands in the text (RFC 9112, sections 9.3 and 9.6).
+pub fn what_may_be_kept()
+    ensures kept { (text octets : List ℕ) (parts added : List Part) (used : ℕ) (old new : State) → Stands text parts old → Knows text old → is_done parts ≡ false → Hears old octets added new → Learns old octets new → Uses old octets used → is_done added ≡ true → (used == length octets && new.held.keeps) ≡ true → LeavesOpen (text ++ octets) old.to_head }
+    ensures not_kept { (text octets : List ℕ) (parts added : List Part) (used : ℕ) (old new : State) → Stands text parts old → Knows text old → Hears old octets added new → Learns old octets new → Uses old octets used → (used == length octets && new.held.keeps) ≡ false → LeavesOpen (text ++ octets) old.to_head → ⊥ }
 {}

@@ -1,12 +1,15 @@
 //! A reader of one response.
 
-ghost use Rattle.std.specs.Prelude.{◌≡◌, ◌≢◌, ◌<◌, ◌≤◌, ◌++◌, ◌∷◌, [], ℕ, List, Err, length, take, OnOk, OnErr, IfOk, IfErr};
+ghost use Rattle.std.specs.Prelude.{◌≡◌, ◌≢◌, ◌<◌, ◌≤◌, ◌++◌, ◌∷◌, ◌⊎◌, ◌&&◌, [], ℕ, List, Err, true, false, length, take, OnOk, OnErr, IfOk, IfErr};
 ghost use Rattle.h1_reader.specs.Parts.{Part};
 ghost use Rattle.response_texts.specs.HeadSizes.{field_octets};
 ghost use Rattle.h1_reader.specs.Views.{parts_of};
 ghost use Rattle.response_texts.specs.ChunkLines.{IsInRange};
 ghost use Rattle.h1_reader.specs.Standing.{Stands, Hears, Breaks, IsEnd};
 ghost use Rattle.h1_reader.specs.GoesOn.{GoesOn};
+ghost use Rattle.h1_reader.specs.Uses.{Uses, IsUsed, Ends};
+ghost use Rattle.response_texts.specs.Framings.{framing_view};
+ghost use Rattle.h1_reader.specs.Keeps.{Knows, Learns, ends_itself};
 ghost use Rattle.h1_reader.specs.Begins.{Begins};
 ghost use Rattle.h1_reader.specs.Faults.{Fails};
 
@@ -58,6 +61,13 @@ pub enum Place {
     Broken(ResponseFault),
 }
 
+/// Whether the connection stays open behind a response, by its head and where its body ends (RFC 9112, section 9.3).
+fn is_kept(stays: bool, framing: Framing) -> bool
+    ensures { (named : List (List ℕ)) → result ≡ (stays && ends_itself (framing_view named framing)) }
+{
+    stays && !matches!(framing, Framing::UntilEnd)
+}
+
 /// A reader of one response (RFC 9112), whose octets come in pieces of any length.
 #[derive(Drop)]
 pub struct Reader {
@@ -66,6 +76,7 @@ pub struct Reader {
     place: Place,
     held: Vec<u8>,
     connections: Vec<Field>,
+    keeps: bool,
     spans: Vec<HeaderSpan>,
 }
 
@@ -74,7 +85,7 @@ impl Model for Reader {
 
     ghost Value = { State };
 
-    ghost view = { λ r. record { to_head = r.to_head; place = r.place; held = record { octets = r.held.items; connections = r.connections.items } } };
+    ghost view = { λ r. record { to_head = r.to_head; place = r.place; held = record { octets = r.held.items; connections = r.connections.items; keeps = r.keeps } } };
 
     ghost use Rattle.std.specs.Prelude.{◌≤◌, length};
     ghost use Rattle.response_texts.specs.HeadSizes.{field_octets};
@@ -86,8 +97,9 @@ impl Model for Reader {
 impl Reader {
     /// A reader of the response to a request whose method is HEAD or isn't. It takes no memory.
     pub fn new(alloc: Global, to_head: bool) -> Self
-        ensures is { result ≡ record { to_head = to_head; place = Place.Head 0; held = record { octets = []; connections = [] } } }
+        ensures is { result ≡ record { to_head = to_head; place = Place.Head 0; held = record { octets = []; connections = []; keeps = false } } }
         ensures stands { Stands [] [] result }
+        ensures knows { Knows [] result }
     {
         Reader {
             alloc,
@@ -95,16 +107,21 @@ impl Reader {
             place: Place::Head(0),
             held: Vec::new(alloc),
             connections: Vec::new(alloc),
+            keeps: false,
             spans: Vec::new(alloc),
         }
     }
 
-    /// Takes the next octets, and adds what they tell to the pieces.
+    /// Takes the next octets, adds what they tell to the pieces, and answers how many it used: all of them, or those with which
+    /// the response became whole, and the rest isn't read.
     ///
-    /// What stands behind a whole response is ignored. A fault adds nothing, and every later call answers the same one. It is
+    /// The reader stands for those with the pieces that were added, and also for all of the octets, which begin with the whole response
+    /// (`ok`). In a later call all octets are used, and ignored. A fault adds nothing, and every later call answers the same one. It is
     /// the fault that stands in all octets so far, of which there is one at most (`laws`).
-    pub fn feed(&mut self, octets: &[u8], pieces: &mut Vec<Piece>) -> Result<(), ResponseFault>
-        ensures ok { OnOk result ((added : List Part) × (parts_of pieces.new.items ≡ parts_of pieces.old.items ++ added) × Hears self.old octets.now added self.new) }
+    pub fn feed(&mut self, octets: &[u8], pieces: &mut Vec<Piece>) -> Result<usize, ResponseFault>
+        ensures ok { IfOk result (λ used. (added : List Part) × (parts_of pieces.new.items ≡ parts_of pieces.old.items ++ added) × Hears self.old octets.now added self.new × Hears self.old (take used octets.now) added self.new) }
+        ensures used { IfOk result (λ used. Uses self.old octets.now used) }
+        ensures knows { IfOk result (λ used. Learns self.old octets.now self.new × Learns self.old (take used octets.now) self.new) }
         ensures fault { IfErr result (λ fault. fault ≢ ResponseFault.Memory → Breaks self.old octets.now) }
         ensures kind { IfErr result (λ fault. fault ≢ ResponseFault.Memory → Fails self.old octets.now fault) }
         ensures unchanged { OnErr result (pieces.new.items ≡ pieces.old.items) }
@@ -113,14 +130,24 @@ impl Reader {
         ensures held { length self.new.held.octets ≤ 16384 }
         ensures connections { field_octets self.new.held.connections ≤ 16384 }
     {
-        if let Place::Broken(fault) = self.place {
-            return Err(fault);
+        match self.place {
+            Place::Broken(fault) => return Err(fault),
+            Place::Past => return Ok(octets.len()),
+            _ => {}
         }
         let outcome = self.tell(octets, pieces);
         if let Err(fault) = outcome {
             self.place = Place::Broken(fault);
         }
         outcome
+    }
+
+    /// Whether the final head lets its connection stay open for another request: it is of HTTP/1.1, `close` isn't among the options of
+    /// its fields Connection, and the body ends before the connection does (`laws`). Before that head it is `false`.
+    pub fn keeps(&self) -> bool
+        ensures { result ≡ self.now.held.keeps }
+    {
+        self.keeps
     }
 
     /// What the end of the connection makes of the response: short behind a fault.
@@ -142,9 +169,12 @@ impl Reader {
         }
     }
 
-    /// Takes the next octets, and adds what they tell to the pieces, or nothing where there is a fault.
-    fn tell(&mut self, octets: &[u8], pieces: &mut Vec<Piece>) -> Result<(), ResponseFault>
-        ensures ok { OnOk result ((added : List Part) × (parts_of pieces.new.items ≡ parts_of pieces.old.items ++ added) × Hears self.old octets.now added self.new) }
+    /// Takes the next octets, adds what they tell to the pieces, or nothing where there is a fault, and answers how many it used.
+    fn tell(&mut self, octets: &[u8], pieces: &mut Vec<Piece>) -> Result<usize, ResponseFault>
+        requires { self.old.place ≢ Place.Past }
+        ensures ok { IfOk result (λ used. (added : List Part) × (parts_of pieces.new.items ≡ parts_of pieces.old.items ++ added) × Hears self.old (take used octets.now) added self.new) }
+        ensures used { IfOk result (λ used. IsUsed self.old octets.now used self.new) }
+        ensures learns { IfOk result (λ used. Learns self.old (take used octets.now) self.new) }
         ensures fault { IfErr result (λ fault. fault ≢ ResponseFault.Memory → Fails self.old octets.now fault) }
         ensures unchanged { OnErr result (pieces.new.items ≡ pieces.old.items) }
     {
@@ -156,26 +186,43 @@ impl Reader {
         outcome
     }
 
-    /// Takes all octets, one step after another.
-    fn take_all(&mut self, octets: &[u8], told: &mut Told) -> Result<(), ResponseFault>
-        requires { told.old ≡ [] }
-        ensures ok { OnOk result (GoesOn self.old told.old octets.now self.new told.new) }
+    /// Whether nothing is to be read: the response is whole, or no octets are left.
+    fn stops(&self, rest: &[u8]) -> bool
+        ensures yes { result ≡ true → (self.now.place ≡ Place.Past) ⊎ (length rest.now ≡ 0) }
+        ensures no { result ≡ false → (self.now.place ≢ Place.Past) × (0 < length rest.now) }
+    {
+        match self.place {
+            Place::Past => true,
+            _ => rest.is_empty(),
+        }
+    }
+
+    /// Takes octets, one step after another, until the response is whole or none are left, and answers how many.
+    fn take_all(&mut self, octets: &[u8], told: &mut Told) -> Result<usize, ResponseFault>
+        requires nothing { told.old ≡ [] }
+        requires place { self.old.place ≢ Place.Past }
+        ensures ok { IfOk result (λ used. GoesOn self.old told.old (take used octets.now) self.new told.new) }
+        ensures used { IfOk result (λ used. IsUsed self.old octets.now used self.new) }
+        ensures learns { IfOk result (λ used. Learns self.old (take used octets.now) self.new) }
         ensures fault { IfErr result (λ fault. fault ≢ ResponseFault.Memory → Fails self.old octets.now fault) }
     {
         let mut rest = octets;
-        while !rest.is_empty() {
+        while !self.stops(rest) {
             match self.take(rest, told) {
                 Ok(used) => rest = &rest[used..],
                 Err(fault) => return Err(fault),
             }
         }
-        Ok(())
+        Ok(octets.len() - rest.len())
     }
 
     /// Takes some octets, one or more, and answers how many.
     fn take(&mut self, octets: &[u8], told: &mut Told) -> Result<usize, ResponseFault>
-        requires { 0 < length octets.now }
+        requires octets { 0 < length octets.now }
+        requires place { self.old.place ≢ Place.Past }
         ensures ok { IfOk result (λ used. (0 < used) × (used ≤ length octets.now) × GoesOn self.old told.old (take used octets.now) self.new told.new) }
+        ensures ends { IfOk result (λ used. Ends self.old (take used octets.now) self.new) }
+        ensures learns { IfOk result (λ used. Learns self.old (take used octets.now) self.new) }
         ensures fault { IfErr result (λ fault. fault ≢ ResponseFault.Memory → Fails self.old octets.now fault) }
     {
         match self.place {
@@ -190,7 +237,7 @@ impl Reader {
             Place::ChunkEnd => self.take_return(octets[0]),
             Place::ChunkReturn => self.take_feed(octets[0]),
             Place::Trailers => self.take_trailers(octets, told),
-            Place::Past => Ok(octets.len()),
+            Place::Past => unreachable!(),
             Place::Broken(fault) => Err(fault),
         }
     }
@@ -205,6 +252,8 @@ impl Reader {
         requires place { self.old.place ≡ Place.Sized left }
         requires octets { 0 < length octets.now }
         ensures ok { IfOk result (λ used. (0 < used) × (used ≤ length octets.now) × GoesOn self.old told.old (take used octets.now) self.new told.new) }
+        ensures ends { IfOk result (λ used. Ends self.old (take used octets.now) self.new) }
+        ensures kept { OnOk result (self.new.held.keeps ≡ self.old.held.keeps) }
         ensures fault { IfErr result (λ fault. fault ≡ ResponseFault.Memory) }
     {
         let count = octets.len() as u64;
@@ -225,6 +274,8 @@ impl Reader {
         requires place { self.old.place ≡ Place.Line line }
         requires range { IsInRange line }
         ensures ok { IfOk result (λ used. (used ≡ 1) × Hears self.old (octet ∷ []) [] self.new) }
+        ensures on { OnOk result (self.new.place ≢ Place.Past) }
+        ensures kept { OnOk result (self.new.held.keeps ≡ self.old.held.keeps) }
         ensures fault { IfErr result (λ fault. (rest : List ℕ) → Fails self.old (octet ∷ rest) fault) }
     {
         match line_step(line, octet) {
@@ -249,6 +300,8 @@ impl Reader {
         requires place { self.old.place ≡ Place.Chunk left }
         requires octets { 0 < length octets.now }
         ensures ok { IfOk result (λ used. (0 < used) × (used ≤ length octets.now) × GoesOn self.old told.old (take used octets.now) self.new told.new) }
+        ensures on { OnOk result (self.new.place ≢ Place.Past) }
+        ensures kept { OnOk result (self.new.held.keeps ≡ self.old.held.keeps) }
         ensures fault { IfErr result (λ fault. fault ≡ ResponseFault.Memory) }
     {
         let count = octets.len() as u64;
@@ -267,6 +320,8 @@ impl Reader {
     fn take_return(&mut self, octet: u8) -> Result<usize, ResponseFault>
         requires { self.old.place ≡ Place.ChunkEnd }
         ensures ok { IfOk result (λ used. (used ≡ 1) × Hears self.old (octet ∷ []) [] self.new) }
+        ensures on { OnOk result (self.new.place ≢ Place.Past) }
+        ensures kept { OnOk result (self.new.held.keeps ≡ self.old.held.keeps) }
         ensures fault { IfErr result (λ fault. (rest : List ℕ) → Fails self.old (octet ∷ rest) fault) }
     {
         if octet != b'\r' {
@@ -280,6 +335,8 @@ impl Reader {
     fn take_feed(&mut self, octet: u8) -> Result<usize, ResponseFault>
         requires { self.old.place ≡ Place.ChunkReturn }
         ensures ok { IfOk result (λ used. (used ≡ 1) × Hears self.old (octet ∷ []) [] self.new) }
+        ensures on { OnOk result (self.new.place ≢ Place.Past) }
+        ensures kept { OnOk result (self.new.held.keeps ≡ self.old.held.keeps) }
         ensures fault { IfErr result (λ fault. (rest : List ℕ) → Fails self.old (octet ∷ rest) fault) }
     {
         if octet != b'\n' {
@@ -294,6 +351,8 @@ impl Reader {
         requires place { self.old.place ≡ Place.Trailers }
         requires octets { 0 < length octets.now }
         ensures ok { IfOk result (λ used. (0 < used) × (used ≤ length octets.now) × GoesOn self.old told.old (take used octets.now) self.new told.new) }
+        ensures ends { IfOk result (λ used. Ends self.old (take used octets.now) self.new) }
+        ensures kept { OnOk result (self.new.held.keeps ≡ self.old.held.keeps) }
         ensures fault { IfErr result (λ fault. fault ≢ ResponseFault.Memory → Fails self.old octets.now fault) }
     {
         let held = mem::replace(&mut self.held, Vec::new(self.alloc));
@@ -321,6 +380,8 @@ impl Reader {
         requires place { self.old.place ≡ Place.Head interims }
         requires octets { 0 < length octets.now }
         ensures ok { IfOk result (λ used. (0 < used) × (used ≤ length octets.now) × GoesOn self.old told.old (take used octets.now) self.new told.new) }
+        ensures ends { IfOk result (λ used. Ends self.old (take used octets.now) self.new) }
+        ensures learns { IfOk result (λ used. Learns self.old (take used octets.now) self.new) }
         ensures fault { IfErr result (λ fault. fault ≢ ResponseFault.Memory → Fails self.old octets.now fault) }
     {
         let held = mem::replace(&mut self.held, Vec::new(self.alloc));
@@ -337,9 +398,10 @@ impl Reader {
                 self.place = Place::Head(interims + 1);
                 Ok(used)
             }
-            Ok(FrontRead::FinalAt(head, framing, connections, used)) => {
+            Ok(FrontRead::FinalAt(head, framing, connections, stays, used)) => {
                 told.head(head)?;
                 self.connections = connections;
+                self.keeps = is_kept(stays, framing);
                 self.begin_body(framing, told)?;
                 Ok(used)
             }

@@ -1,6 +1,6 @@
 -- What the rooms keep where the gateway rests is bounded: for each stream its outbox and its connections' answers together, and all of it.
-use Rattle.std.proofs.Common.{◌≡◌, ℕ, ◌+◌, ◌*◌, ◌<◌, ◌≤◌, ◌^◌, true, false, List, [], ◌∷◌, length, Option, Some, None, refl, sym, ◌∙◌, ap, subst, arith}
-use Rattle.std.specs.Prelude.{is_some, option_map, All}
+use Rattle.std.proofs.Common.{◌≡◌, ℕ, ◌+◌, ◌*◌, ◌<◌, ◌≤◌, ◌⊎◌, ◌^◌, false, List, [], ◌∷◌, length, Option, Some, None, refl, sym, ◌∙◌, ap, subst, inl, inr, arith}
+use Rattle.std.specs.Prelude.{option_map, All}
 use Rattle.std.proofs.lemmas.List.{length-map, length-reverse}
 use Rattle.std.proofs.lemmas.Nat.{mul-le}
 use Rattle.model.specs.Setup.{Setup, Passing}
@@ -11,6 +11,10 @@ use Rattle.model.specs.StreamStates.{most_active}
 use Rattle.model.specs.Tables.{Table, total_size}
 use Rattle.model.specs.Courses.{course}
 use Rattle.model.specs.Known.{Known}
+use Rattle.model.specs.Openings.{Opened, exchanges, exchange_on}
+use Rattle.model.specs.Idle.{most_idle}
+use Rattle.model.proofs.DeliveryReadings.{one_connection}
+use Rattle.model.proofs.ExchangeLaws.{open_exchange}
 use Rattle.model.specs.Failures.{AreJudged}
 use Rattle.model.specs.ResponseHeads.{longest_section}
 use Rattle.conduct.specs.Rule.{AreKnown, known_of}
@@ -34,11 +38,12 @@ use Rattle.offering.proofs.SentOctets.{unpadded}
 use Rattle.serving.specs.Held as requests
 use Rattle.serving.specs.Told.{Told}
 use Rattle.serving.specs.Rule as serving
-use Rattle.serving.specs.State.{Live, find, live_of}
+use Rattle.serving.specs.Lines.{Line, find, line_of}
+use Rattle.serving.specs.Lines.Answer.{Pending, Idle}
 use Rattle.serving.specs.State as serving_state
 use Rattle.serving.specs.State.Due.{Nothing}
 use Rattle.serving.proofs.Clauses.{all_stand}
-use Rattle.serving.proofs.Counted.{live_few}
+use Rattle.serving.proofs.Counted.{live_few, idle_few}
 use Rattle.serving.proofs.Holding as waiting
 use Rattle.serving.proofs.Lists.{found_key}
 use Rattle.serving.proofs.Served.{held_few}
@@ -61,8 +66,8 @@ use Rattle.relay.specs.View.{View, square, Leads}
 use Rattle.relay.proofs.Lives.{lives_found}
 use Rattle.answers.specs.HeldInside.{octets_of}
 use Rattle.upstreams.specs.HeldInside.{answers_in}
-use Rattle.holding.specs.Held.{answers_for, IsSmall, held_for, held_beside, held_in, most_beside, most_streams, most_for_stream, most_in_all}
-use Rattle.holding.proofs.Lists.{ids_of, offer_none, offer_found, box_at, all_found, by_number, found_own, found_behind, HaveOne, answers_none, answers_found, sums_most, sums_both, offers_by_stream, answers_by_stream}
+use Rattle.holding.specs.Held.{answers_for, IsSmall, held_for, held_beside, held_in, most_beside, most_streams, most_connections, most_for_stream, most_in_all}
+use Rattle.holding.proofs.Lists.{ids_of, offer_none, offer_found, box_at, all_found, by_number, found_own, found_behind, HaveOne, IsBoxed, answers_none, answers_found, sums_most, sums_both, offers_by_stream, answers_by_stream}
 use Rattle.holding.proofs.Waiting.{each_waits}
 use Rattle.holding.proofs.Answering.{Answering, answering, none_waits, answer_small, answer_streamed}
 
@@ -82,30 +87,30 @@ module _ (known : Known) (run : List Move) (k : IsKnown known run) (rests : Rest
   stand = subst (λ (x : List Entry). Stands known x s.requests) (requests_tape known.setup run) (all_stand known (turns_of known.setup run) (turns_may known.setup run k.all) (turns_so known run k.knows k.all k.answered))
 
   place : Placed known t s.offers
-  place = subst (λ (x : List Entry). Placed known x s.offers) (offers_tape known.setup run) (placed known (offers_of known.setup run) (offers_may known.setup run k.all) (offers_right known run k.knows k.all) (offers_told known run k.answered)).1
+  place = subst (λ (x : List Entry). Placed known x s.offers) (offers_tape known.setup run) (placed known (offers_of known.setup run) (offers_may known.setup run k.all) (offers_right known run k.knows k.all) (offers_told known run k.knows k.answered)).1
 
   judged_there : AreJudged known (offering.tape_of (offers_of known.setup run))
   judged_there = subst (AreJudged known) (sym (offers_tape known.setup run)) (judged known run k.knows k.answered)
 
   fits : NoneTooLong known t
-  fits = subst (NoneTooLong known) (offers_tape known.setup run) (none_too_long known (offers_of known.setup run) (offers_may known.setup run k.all) (offers_right known run k.knows k.all) (offers_told known run k.answered) judged_there)
+  fits = subst (NoneTooLong known) (offers_tape known.setup run) (none_too_long known (offers_of known.setup run) (offers_may known.setup run k.all) (offers_right known run k.knows k.all) (offers_told known run k.knows k.answered) judged_there)
 
   heads : All (λ (x : Kept). outboxes.FewWait x.box) s.offers.kept
-  heads = outboxes.all_few known (offers_of known.setup run) (offers_may known.setup run k.all) (offers_right known run k.knows k.all) (offers_told known run k.answered)
+  heads = outboxes.all_few known (offers_of known.setup run) (offers_may known.setup run k.all) (offers_right known run k.knows k.all) (offers_told known run k.knows k.answered)
 
   distinct : AreDistinct (ids_of s.offers.kept)
-  distinct = are_distinct known (offers_of known.setup run) (offers_may known.setup run k.all) (offers_right known run k.knows k.all) (offers_told known run k.answered)
+  distinct = are_distinct known (offers_of known.setup run) (offers_may known.setup run k.all) (offers_right known run k.knows k.all) (offers_told known run k.knows k.answered)
 
-  goes_on : (j : ℕ) (live : Live) → live_of j s.requests.live ≡ Some live → Answering known t j live
+  goes_on : (j : ℕ) (line : Line) → line_of j s.requests.live ≡ Some line → Answering known t j line ⊎ (line.answer ≡ Idle)
   goes_on = answering known t s.requests told stand (told_right known run k.knows (all_moved known run k.all)) rests.served
 
   -- connections of one stream are one
-  one_stream : (i j : ℕ) (l m : Live) → live_of i s.requests.live ≡ Some l → live_of j s.requests.live ≡ Some m → l.stream ≡ m.stream → i ≡ j
+  one_stream : (i j : ℕ) (l m : Line) → line_of i s.requests.live ≡ Some l → line_of j s.requests.live ≡ Some m → l.stream ≡ m.stream → i ≡ j
   one_stream i j l m first second same =
-      let a = goes_on i l first in
-      let b = goes_on j m second in
-      let both = Rattle.model.proofs.DeliveryReadings.one_connection (Rattle.model.specs.Openings.opens t) a.o b.o stand.apart a.there b.there (a.of ∙ same ∙ sym b.of) in
-      sym a.number ∙ ap (λ (x : Rattle.model.specs.Openings.Opened). x.k) both ∙ b.number
+      let a = stand.keeps.are_so i l first in
+      let b = stand.keeps.are_so j m second in
+      let both = one_connection (exchanges t) (exchange_on i t) (exchange_on j t) stand.apart (open_exchange i t a.opened) (open_exchange j t b.opened) (a.stream ∙ same ∙ sym b.stream) in
+      ap (λ (x : Opened). x.k) both
 
   -- ---- the connections that the rooms keep
 
@@ -113,8 +118,8 @@ module _ (known : Known) (run : List Move) (k : IsKnown known run) (rests : Rest
     apart : AreApart (lives live)
     apart = subst AreApart same (all_apart known.setup (turns_of known.setup run) (turns_may known.setup run k.all))
 
-    kept_live : (j : ℕ) (c : Connection) → find number_of j live ≡ Some c → live_of j s.requests.live ≡ Some c.live
-    kept_live j c found = ap (live_of j) same ∙ lives_found j live ∙ ap (option_map (λ (x : Connection). x.live)) found
+    kept_live : (j : ℕ) (c : Connection) → find number_of j live ≡ Some c → line_of j s.requests.live ≡ Some c.live
+    kept_live j c found = ap (line_of j) same ∙ lives_found j live ∙ ap (option_map (λ (x : Connection). x.live)) found
 
     have_one : (cs : List Connection) → AreApart (lives cs) → ((j : ℕ) (c : Connection) → find number_of j cs ≡ Some c → find number_of j live ≡ Some c) → HaveOne cs
     have_one [] once among = tt
@@ -128,17 +133,21 @@ module _ (known : Known) (run : List Move) (k : IsKnown known run) (rests : Rest
         none (Some x) found =
             let there = by_number c.live.stream cs x once.1 found in
             let equal = one_stream c.live.k x.live.k c.live x.live (kept_live c.live.k c (among c.live.k c (found_own c cs))) (kept_live x.live.k x (behind x.live.k x there)) (sym (found_key stream_of c.live.stream cs x found)) in
-            absurd (let clash : ◌≡◌ {A = Option Live} None (Some x.live) = sym once.0 ∙ ap (λ n. live_of n (lives cs)) equal ∙ lives_found x.live.k cs ∙ ap (option_map (λ (y : Connection). y.live)) there in cc)
+            absurd (let clash : ◌≡◌ {A = Option Line} None (Some x.live) = sym once.0 ∙ ap (λ n. line_of n (lives cs)) equal ∙ lives_found x.live.k cs ∙ ap (option_map (λ (y : Connection). y.live)) there in cc)
 
     ones : HaveOne live
     ones = have_one live apart (λ j c found. found)
 
-    -- each is of a stream that has an outbox
-    with_boxes : All (λ (c : Connection). is_some (offering_state.find c.live.stream s.offers.kept) ≡ true) live
-    with_boxes = all_found (λ (c : Connection). is_some (offering_state.find c.live.stream s.offers.kept) ≡ true) live apart (λ j c found. place.offering.lives c.live.stream ∙ (goes_on j c.live (kept_live j c found)).active)
+    module _ (empty : (j : ℕ) (c : Connection) → find number_of j live ≡ Some c → c.live.answer ≡ Idle → octets_of c.answer ≡ 0) where
+      -- each is of a stream that has an outbox, or its answer holds nothing
+      with_boxes : All (IsBoxed s.offers.kept) live
+      with_boxes = all_found (IsBoxed s.offers.kept) live apart (λ j c found. boxed j c found (goes_on j c.live (kept_live j c found)))
+        where
+          boxed : (j : ℕ) (c : Connection) → find number_of j live ≡ Some c → Answering known t j c.live ⊎ (c.live.answer ≡ Idle) → IsBoxed s.offers.kept c
+          boxed j c found (inl a) = inl (place.offering.lives c.live.stream ∙ a.active)
+          boxed j c found (inr idle) = inr (empty j c found idle)
 
-    module _ (heard : (j : ℕ) (c : Connection) → find number_of j live ≡ Some c → c.live.whole ≡ false → (course known c.live.stream t).cause ≡ None → IsHeard known t j c.answer) where
-      module _ (fit : known.setup.passing ≡ Streaming → FitRooms known t) where
+      module _ (heard : (j : ℕ) (c : Connection) → find number_of j live ≡ Some c → c.live.answer ≡ Pending → (course known c.live.stream t).cause ≡ None → IsHeard known t j c.answer) (fit : known.setup.passing ≡ Streaming → FitRooms known t) where
         limited : AreLimited known.setup.passing known (offering.tape_of (offers_of known.setup run))
         limited = subst (AreLimited known.setup.passing known) (sym (offers_tape known.setup run)) (by known.setup.passing refl)
           where
@@ -147,7 +156,7 @@ module _ (known : Known) (run : List Move) (k : IsKnown known run) (rests : Rest
             by Streaming is = (fit is, unpadded known t (in_turns known run k.knows k.all))
 
         boxes : All (λ (x : Kept). offers.octets_in x.box ≤ offers.most_octets known.setup) s.offers.kept
-        boxes = outboxes.all_held known (offers_of known.setup run) (offers_may known.setup run k.all) (offers_right known run k.knows k.all) (offers_told known run k.answered) limited
+        boxes = outboxes.all_held known (offers_of known.setup run) (offers_may known.setup run k.all) (offers_right known run k.knows k.all) (offers_told known run k.knows k.answered) limited
 
         most : offers.most_octets known.setup ≤ known.setup.max_response + 229376
         most = outboxes.most_within known.setup
@@ -163,40 +172,50 @@ module _ (known : Known) (run : List Move) (k : IsKnown known run) (rests : Rest
           own : c.live.stream ≡ stream
           own = found_key stream_of stream live c found
 
-          a : Answering known t c.live.k c.live
-          a = goes_on c.live.k c.live (kept_live c.live.k c there)
+          module _ (a : Answering known t c.live.k c.live) where
+            told_of : IsHeard known t c.live.k c.answer
+            told_of = heard c.live.k c there a.pending a.no_cause
 
-          told_of : IsHeard known t c.live.k c.answer
-          told_of = heard c.live.k c there a.goes_on a.no_cause
+            -- what the answer of its connection holds
+            answer_whole : known.setup.passing ≡ Whole → octets_of c.answer ≤ known.setup.max_response + 3 * longest_section
+            answer_whole whole = answer_small known t c.live.k c.live c.answer whole place.neighbours a told_of fits
 
-          -- what the answer of its connection holds
-          answer_whole : known.setup.passing ≡ Whole → octets_of c.answer ≤ known.setup.max_response + 3 * longest_section
-          answer_whole whole = answer_small known t c.live.k c.live c.answer whole place.neighbours a told_of fits
+            answer_going : known.setup.passing ≡ Streaming → octets_of c.answer ≤ 2 * longest_section
+            answer_going streaming = answer_streamed known t c.live.k c.answer streaming told_of
 
-          answer_going : known.setup.passing ≡ Streaming → octets_of c.answer ≤ 2 * longest_section
-          answer_going streaming = answer_streamed known t c.live.k c.answer streaming told_of
+            answer_by : (passing : Passing) → known.setup.passing ≡ passing → octets_of c.answer ≤ known.setup.max_response + 3 * longest_section
+            answer_by Whole is = answer_whole is
+            answer_by Streaming is = let less = answer_going is in omega (arith, less)
 
-          answer_either : (passing : Passing) → known.setup.passing ≡ passing → octets_of c.answer ≤ known.setup.max_response + 3 * longest_section
-          answer_either Whole is = answer_whole is
-          answer_either Streaming is = let less = answer_going is in omega (arith, less)
+            -- of a body that is passed on whole its outbox holds nothing yet
+            box_bare : (x : Kept) → known.setup.passing ≡ Whole → offering_state.find stream s.offers.kept ≡ Some x → offers.octets_in x.box ≤ (offers.most_heads + 1) * longest_section
+            box_bare x whole box =
+                let is_kept : IsKeptIf known t c.live.stream (Some x) = subst (IsKeptIf known t c.live.stream) (ap (λ n. offering_state.find n s.offers.kept) own ∙ box) (place.offering.kept c.live.stream a.active) in
+                let none = none_waits known t c.live.k c.live x.box whole place.neighbours a (is_kept.stands (is_kept.uncut a.no_cause)) in
+                let few = box_at (λ (y : Kept). outboxes.FewWait y.box) stream s.offers.kept x heads box in
+                let some = outboxes.heads_sum x.box few in
+                let trailers = few.trailers in
+                omega (arith, none, some, trailers)
 
-          -- of a body that is passed on whole its outbox holds nothing yet
-          box_bare : (x : Kept) → known.setup.passing ≡ Whole → offering_state.find stream s.offers.kept ≡ Some x → offers.octets_in x.box ≤ (offers.most_heads + 1) * longest_section
-          box_bare x whole box =
-              let is_kept : IsKeptIf known t c.live.stream (Some x) = subst (IsKeptIf known t c.live.stream) (ap (λ n. offering_state.find n s.offers.kept) own ∙ box) (place.offering.kept c.live.stream a.active) in
-              let none = none_waits known t c.live.k c.live x.box whole place.neighbours a (is_kept.stands (is_kept.uncut a.no_cause)) in
-              let few = box_at (λ (y : Kept). outboxes.FewWait y.box) stream s.offers.kept x heads box in
-              let some = outboxes.heads_sum x.box few in
-              let trailers = few.trailers in
-              omega (arith, none, some, trailers)
+            -- both together
+            both_by : (x : Kept) → offering_state.find stream s.offers.kept ≡ Some x → (passing : Passing) → known.setup.passing ≡ passing → offers.octets_in x.box + octets_of c.answer ≤ known.setup.max_response + 262144
+            both_by x box Whole is = let bare = box_bare x is box in let answer = answer_whole is in omega (arith, bare, answer)
+            both_by x box Streaming is = let small = box_small stream x box in let answer = answer_going is in omega (arith, small, answer)
 
-          -- both together
-          both_small : (x : Kept) → offering_state.find stream s.offers.kept ≡ Some x → offers.octets_in x.box + octets_of c.answer ≤ known.setup.max_response + 262144
-          both_small x box = by known.setup.passing refl
+          -- what its answer holds, whether its response is whole or not
+          answer_either : octets_of c.answer ≤ known.setup.max_response + 3 * longest_section
+          answer_either = by (goes_on c.live.k c.live (kept_live c.live.k c there))
             where
-              by : (passing : Passing) → known.setup.passing ≡ passing → offers.octets_in x.box + octets_of c.answer ≤ known.setup.max_response + 262144
-              by Whole is = let bare = box_bare x is box in let answer = answer_whole is in omega (arith, bare, answer)
-              by Streaming is = let small = box_small stream x box in let answer = answer_going is in omega (arith, small, answer)
+              by : Answering known t c.live.k c.live ⊎ (c.live.answer ≡ Idle) → octets_of c.answer ≤ known.setup.max_response + 3 * longest_section
+              by (inl a) = answer_by a known.setup.passing refl
+              by (inr idle) = let none = empty c.live.k c there idle in omega (arith, none)
+
+          both_small : (x : Kept) → offering_state.find stream s.offers.kept ≡ Some x → offers.octets_in x.box + octets_of c.answer ≤ known.setup.max_response + 262144
+          both_small x box = by (goes_on c.live.k c.live (kept_live c.live.k c there))
+            where
+              by : Answering known t c.live.k c.live ⊎ (c.live.answer ≡ Idle) → offers.octets_in x.box + octets_of c.answer ≤ known.setup.max_response + 262144
+              by (inl a) = both_by a x box known.setup.passing refl
+              by (inr idle) = let none = empty c.live.k c there idle in let small = box_small stream x box in omega (arith, none, small)
 
         -- what is on offer for a stream, and what its connections' answers hold
         pub pair : (stream : ℕ) → on_offer_for stream s.offers.kept + answers_for stream live ≤ known.setup.max_response + 262144
@@ -214,7 +233,7 @@ module _ (known : Known) (run : List Move) (k : IsKnown known run) (rests : Rest
                 omega (arith, answer, box, small)
             by (Some c) found None empty =
                 let answer = answers_found stream live c ones found in
-                let small = answer_either stream c found known.setup.passing refl in
+                let small = answer_either stream c found in
                 let box = offer_none stream s.offers.kept empty in
                 omega (arith, answer, small, box)
             by (Some c) found (Some x) is =
@@ -244,7 +263,7 @@ module _ (known : Known) (run : List Move) (k : IsKnown known run) (rests : Rest
     pub few_boxes : length s.offers.kept ≤ most_active
     few_boxes =
         let count : length (ids_of s.offers.kept) ≡ length (active t) =
-        ap length (are_of_active known (offers_of known.setup run) (offers_may known.setup run k.all) (offers_right known run k.knows k.all) (offers_told known run k.answered)) ∙ length-reverse (active (offering.tape_of (offers_of known.setup run))) ∙ ap (λ (x : List Entry). length (active x)) (offers_tape known.setup run) in
+        ap length (are_of_active known (offers_of known.setup run) (offers_may known.setup run k.all) (offers_right known run k.knows k.all) (offers_told known run k.knows k.answered)) ∙ length-reverse (active (offering.tape_of (offers_of known.setup run))) ∙ ap (λ (x : List Entry). length (active x)) (offers_tape known.setup run) in
         let mapped = length-map s.offers.kept (λ (x : Kept). x.id) in
         omega (arith, count, mapped, few)
 
@@ -257,12 +276,13 @@ module _ (known : Known) (run : List Move) (k : IsKnown known run) (rests : Rest
         let same = turns_same in
         omega (arith, less, same, few)
 
-    pub few_connections : length s.requests.live ≤ most_active
+    pub few_connections : length s.requests.live ≤ most_active + most_idle
     few_connections =
         let less = live_few known (turns_of known.setup run) (turns_may known.setup run k.all) (turns_so known run k.knows k.all k.answered)
         (subst (λ (x : Told). serving.Rests x s.requests) (sym (turns_told known.setup run)) rests.served) in
+        let idle = idle_few known (turns_of known.setup run) (turns_may known.setup run k.all) (turns_so known run k.knows k.all k.answered) in
         let same = turns_same in
-        omega (arith, less, same, few)
+        omega (arith, less, idle, same, few)
 
     pub few_beside : octets_begun s.desk.book.block + total_size s.tables.decoding.fields + total_size s.tables.encoding.table.fields ≤ most_beside
     few_beside =
@@ -324,8 +344,8 @@ module _ (setup : Setup) (run : List Move) (kept : View) (s : State) (led : Lead
   encoding_same : rule.tables.encoding ≡ kept.encoding
   encoding_same = ap (λ (x : State). x.tables.encoding) led.stands.is ∙ led.keeps.encoding
 
-  heard_there : (j : ℕ) (c : Connection) → find number_of j kept.upstreams.live ≡ Some c → c.live.whole ≡ false → (course known c.live.stream (tape_of run)).cause ≡ None → IsHeard known (tape_of run) j c.answer
-  heard_there = led.heard known refl knows
+  heard_there : (j : ℕ) (c : Connection) → find number_of j kept.upstreams.live ≡ Some c → c.live.answer ≡ Pending → (course known c.live.stream (tape_of run)).cause ≡ None → IsHeard known (tape_of run) j c.answer
+  heard_there = led.heard.so known refl knows
 
   module _ (range : setup.max_body < 2 ^ 64) (fit : setup.passing ≡ Streaming → FitRooms known (tape_of run)) where
     beside : held_beside kept ≤ most_beside
@@ -342,7 +362,7 @@ module _ (setup : Setup) (run : List Move) (kept : View) (s : State) (led : Lead
     requests_few : length kept.upstreams.held ≤ most_streams
     requests_few = let few_there = few_requests known run is_known rests on in let same = ap length held_same in omega (arith, few_there, same)
 
-    connections_few : length kept.upstreams.live ≤ most_streams
+    connections_few : length kept.upstreams.live ≤ most_connections
     connections_few =
         let few_there = few_connections known run is_known rests on in
         let same = ap length live_same in
@@ -351,7 +371,7 @@ module _ (setup : Setup) (run : List Move) (kept : View) (s : State) (led : Lead
 
     each : (stream : ℕ) → held_for stream kept ≤ most_for_stream setup
     each stream =
-        let both = pair known run is_known rests kept.upstreams.live live_same heard_there fit stream in
+        let both = pair known run is_known rests kept.upstreams.live live_same led.heard.none_idle heard_there fit stream in
         let request = request_small known run is_known rests on range stream in
         let offer = ap (λ (x : offering_state.State). on_offer_for stream x.kept) offers_same in
         let held = ap (requests.held_requests stream) held_same in
@@ -360,7 +380,7 @@ module _ (setup : Setup) (run : List Move) (kept : View) (s : State) (led : Lead
     all : held_in kept ≤ most_in_all setup
     all =
         let little = beside in
-        let both = all_pairs known run is_known rests kept.upstreams.live live_same heard_there fit in
+        let both = all_pairs known run is_known rests kept.upstreams.live live_same led.heard.none_idle heard_there fit in
         let few_there = few_boxes known run is_known rests on in
         let most = mul-le (length rule.offers.kept) (setup.max_response + 262144) 100 (setup.max_response + 262144) (omega (arith, few_there)) (omega arith) in
         let request = requests_small known run is_known rests on range in

@@ -1,5 +1,5 @@
 -- Sums over what is kept for streams, and over streams.
-use Rattle.std.proofs.Common.{◌≡◌, ℕ, ◌+◌, ◌*◌, ◌≤◌, Bool, true, false, ◌==◌, if◌then◌else◌, List, [], ◌∷◌, map, length, Option, Some, None, refl, sym, ◌∙◌, ap, subst, inl, inr, arith}
+use Rattle.std.proofs.Common.{◌≡◌, ℕ, ◌+◌, ◌*◌, ◌≤◌, ◌⊎◌, Bool, true, false, ◌==◌, if◌then◌else◌, List, [], ◌∷◌, map, length, Option, Some, None, refl, sym, ◌∙◌, ap, subst, inl, inr, arith}
 use Rattle.std.specs.Prelude.{is_some, sum_by, option_map, All}
 use Rattle.std.specs.List.{list_any}
 use Rattle.std.proofs.lemmas.Bool.{or_parts, eq-eqb, ne_eqb, eqb-true}
@@ -9,7 +9,7 @@ use Rattle.std.proofs.lemmas.List.Sums.{sum_by-cons}
 use Rattle.offering.specs.Held.{octets_in, AreDistinct}
 use Rattle.offering.specs.State.{Kept}
 use Rattle.offering.specs.State as offering
-use Rattle.serving.specs.State.{Live, find, live_of}
+use Rattle.serving.specs.Lines.{Line, find, line_of}
 use Rattle.upstreams.specs.Connections.{Connection, number_of, stream_of, lives}
 use Rattle.policy.specs.Held.{on_offer_for}
 use Rattle.policy.proofs.EndingLives.{AreApart}
@@ -77,13 +77,13 @@ connection_at P key n (c ∷ cs) x all found = by (key c == n) found (connection
     by false e more = more e
 
 -- the number of the first isn't that of one behind it
-number_beside : (c : Connection) (cs : List Connection) (n : ℕ) (x : Connection) → live_of c.live.k (lives cs) ≡ None → find number_of n cs ≡ Some x → (c.live.k == n) ≡ false
+number_beside : (c : Connection) (cs : List Connection) (n : ℕ) (x : Connection) → line_of c.live.k (lives cs) ≡ None → find number_of n cs ≡ Some x → (c.live.k == n) ≡ false
 number_beside c cs n x none found =
     ne_eqb c.live.k n (λ same.
-    let clash : ◌≡◌ {A = Option Live} None (Some x.live) = sym none ∙ ap (λ m. live_of m (lives cs)) same ∙ lives_found n cs ∙ ap (option_map (λ (d : Connection). d.live)) found in
+    let clash : ◌≡◌ {A = Option Line} None (Some x.live) = sym none ∙ ap (λ m. line_of m (lives cs)) same ∙ lives_found n cs ∙ ap (option_map (λ (d : Connection). d.live)) found in
     cc)
 
-pub found_behind : (c : Connection) (cs : List Connection) (n : ℕ) (x : Connection) → live_of c.live.k (lives cs) ≡ None → find number_of n cs ≡ Some x → find number_of n (c ∷ cs) ≡ Some x
+pub found_behind : (c : Connection) (cs : List Connection) (n : ℕ) (x : Connection) → line_of c.live.k (lives cs) ≡ None → find number_of n cs ≡ Some x → find number_of n (c ∷ cs) ≡ Some x
 found_behind c cs n x none found = ap (λ b. if b then Some c else find number_of n cs) (number_beside c cs n x none found) ∙ found
 
 pub found_own : (c : Connection) (cs : List Connection) → find number_of c.live.k (c ∷ cs) ≡ Some c
@@ -167,12 +167,20 @@ one_sum stream octets (k ∷ ks) there = elim (eqb_tells k.id stream) [
       omega (arith, rest))
 ]
 
--- all answers, by the streams that have an outbox, where each of a connection has one
-pub answers_by_stream : (ks : List Kept) (cs : List Connection) → All (λ (c : Connection). is_some (offering.find c.live.stream ks) ≡ true) cs → answers_in cs ≤ sums (λ n. answers_for n cs) ks
+-- The answer of a connection whose stream has no outbox holds nothing.
+abbrev pub IsBoxed : List Kept → Connection → Type 0
+IsBoxed ks c = (is_some (offering.find c.live.stream ks) ≡ true) ⊎ (octets_of c.answer ≡ 0)
+
+-- all answers, by the streams that have an outbox
+pub answers_by_stream : (ks : List Kept) (cs : List Connection) → All (IsBoxed ks) cs → answers_in cs ≤ sums (λ n. answers_for n cs) ks
 answers_by_stream ks [] all = omega arith
 answers_by_stream ks (c ∷ cs) all =
-    let first = one_sum c.live.stream (octets_of c.answer) ks (All-head (λ (x : Connection). is_some (offering.find x.live.stream ks) ≡ true) c cs all) in
-    let rest = answers_by_stream ks cs (All-tail (λ (x : Connection). is_some (offering.find x.live.stream ks) ≡ true) c cs all) in
+    let first = one (All-head (IsBoxed ks) c cs all) in
+    let rest = answers_by_stream ks cs (All-tail (IsBoxed ks) c cs all) in
     let both : sums (λ n. (if c.live.stream == n then octets_of c.answer else 0) + answers_for n cs) ks ≡ sums (λ n. if c.live.stream == n then octets_of c.answer else 0) ks + sums (λ n. answers_for n cs) ks =
     sums_both (λ n. if c.live.stream == n then octets_of c.answer else 0) (λ n. answers_for n cs) ks in
     omega (arith, first, rest, both)
+  where
+    one : IsBoxed ks c → octets_of c.answer ≤ sums (λ n. if c.live.stream == n then octets_of c.answer else 0) ks
+    one (inl there) = one_sum c.live.stream (octets_of c.answer) ks there
+    one (inr none) = omega (arith, none)

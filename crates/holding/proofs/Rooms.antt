@@ -1,5 +1,5 @@
 -- What is held of a response that is passed on as it comes is the body in the outbox of its stream, where no connection is done with and no reset is
--- owed: so what takes room of an upstream can be told by what the rooms keep.
+-- owed, and nothing of a connection that is idle: so what takes room of an upstream can be told by what the rooms keep.
 use Rattle.std.proofs.Common.{◌≡◌, ℕ, ◌+◌, ◌-◌, ◌==◌, ◌&&◌, Bool, true, false, List, [], ◌∷◌, length, take, drop, Option, Some, None, refl, sym, ◌∙◌, ap, subst, inl, inr, arith, if◌then◌else◌}
 use Rattle.std.specs.Prelude.{option_map, slice_index}
 use Rattle.std.specs.List.{list_any}
@@ -8,7 +8,7 @@ use Rattle.model.specs.Frames.{Frame, is_padded, has_priority, has_flag, content
 use Rattle.model.specs.Setup.Passing.{Streaming}
 use Rattle.model.specs.Tapes.{Entry, sent}
 use Rattle.model.specs.Tapes.Entry.{Came, Breached, Happened, Sent, Did}
-use Rattle.model.specs.Openings.{Opened, exchanges}
+use Rattle.model.specs.Openings.{Opened, exchanges, exchange_on}
 use Rattle.model.specs.Available.{heard_by, ended_by, items_on, IsShown, IsBegun}
 use Rattle.model.specs.Responses.{IsComplete}
 use Rattle.model.specs.Known.{Known}
@@ -34,7 +34,10 @@ use Rattle.receiving.specs.Rooms.{IsHeld}
 use Rattle.receiving.proofs.Holding.{busy, holds_body}
 use Rattle.serving.specs.Rule.{is_done}
 use Rattle.serving.specs.State as serving
-use Rattle.serving.specs.State.{find, live_of}
+use Rattle.serving.specs.Lines as lines
+use Rattle.serving.specs.Lines.{find, line_of}
+use Rattle.serving.specs.Lines.Answer.{Idle}
+use Rattle.serving.specs.Pool.{Answers}
 use Rattle.serving.specs.Told.{IsTold}
 use Rattle.serving.proofs.Clauses.{all_stand}
 use Rattle.serving.proofs.Standing.{Stands}
@@ -97,7 +100,7 @@ module _ (known : Known) (run : List Move) (kept : View) (pending : Pending) (s 
   place : Placed known t s.offers
   place =
       subst (λ (x : State). Placed known t x.offers) leads.stands.is
-      (subst (λ (x : List Entry). Placed known x (state_of known.setup run).offers) (offers_tape known.setup run) (placed known (offers_of known.setup run) (offers_may known.setup run leads.stands.allowed) (offers_right known run knows leads.stands.allowed) (offers_told known run answered)).1)
+      (subst (λ (x : List Entry). Placed known x (state_of known.setup run).offers) (offers_tape known.setup run) (placed known (offers_of known.setup run) (offers_may known.setup run leads.stands.allowed) (offers_right known run knows leads.stands.allowed) (offers_told known run knows answered)).1)
 
   told : IsTold known t (told_in (told_by s))
   told = subst (λ (u : Summary). IsTold known t (told_in u)) (before_is known.setup run s leads.stands) (told_right known run knows (all_moved known run leads.stands.allowed))
@@ -109,54 +112,67 @@ module _ (known : Known) (run : List Move) (kept : View) (pending : Pending) (s 
       ∙ none_done
 
   module _ (k : ℕ) (c : Connection) (found : find number_of k kept.upstreams.live ≡ Some c) where
-    live_there : live_of k s.requests.live ≡ Some c.live
-    live_there = ap (λ (r : serving.State). live_of k r.live) leads.keeps.requests ∙ lives_found k kept.upstreams.live ∙ ap (option_map (λ (x : Connection). x.live)) found
+    live_there : line_of k s.requests.live ≡ Some c.live
+    live_there = ap (λ (r : serving.State). line_of k r.live) leads.keeps.requests ∙ lives_found k kept.upstreams.live ∙ ap (option_map (λ (x : Connection). x.live)) found
 
-    a : Answering known t k c.live
-    a = answering_by known t s.requests (told_in (told_by s)) stand told none_done_there k c.live live_there
+    -- it is idle, and nothing takes room of it
+    pub none_held : c.live.answer ≡ Idle → IsHeld Streaming known t k 0
+    none_held is =
+        let it = stand.keeps.are_so k c.live live_there in
+        inl (record { is_open = it.opened; kept = subst (Answers known t k) is it.answers }, refl)
 
-    is_heard : IsHeard known t k c.answer
-    is_heard = leads.heard known refl knows k c found a.goes_on a.no_cause
+    module _ (partly : c.live.answer ≡ lines.Answer.Pending) where
+      a : Answering known t k c.live
+      a = elim (answering_by known t s.requests (told_in (told_by s)) stand told none_done_there k c.live live_there) [
+        | inl going ↦ going
+        | inr idle ↦ absurd (let clash : lines.Answer.Pending ≡ Idle = sym partly ∙ idle in cc)
+      ]
 
-    -- its response is passed on as the setup says
-    pub passed_on : passing_in c.answer.way ≡ known.setup.passing
-    passed_on = is_heard.set_up.passing
+      is_heard : IsHeard known t k c.answer
+      is_heard = leads.heard.so known refl knows k c found partly a.no_cause
 
-    module _ (streaming : known.setup.passing ≡ Streaming) where
+      -- its response is passed on as the setup says
+      pub passed_on : passing_in c.answer.way ≡ known.setup.passing
+      passed_on = is_heard.set_up.passing
+
+    module _ (partly : c.live.answer ≡ lines.Answer.Pending) (streaming : known.setup.passing ≡ Streaming) where
+      abbrev own : Opened
+      own = exchange_on k t
+
+      going : Answering known t k c.live
+      going = a partly
+
       -- behind what was read stands what the outbox has, of a response that isn't whole
       has_outbox : (x : Kept) → Offers known t c.live.stream x.box → HasOutbox known t k x.box
       has_outbox x h = record {
-        o = a.o;
-        there = a.begun;
-        number = a.number;
         read = h.read;
-        reads = subst (λ n. ReadsAs (items_on n (sent t)) h.read) (sym a.of) h.reads;
+        reads = subst (λ n. ReadsAs (items_on n (sent t)) h.read) (sym going.of) h.reads;
         fits = h.fits;
         begun = elim h.offer [
-          | inl (inl r) ↦ absurd (let clash : ◌≡◌ {A = Option Cause} None (Some r.cause) = sym a.no_cause ∙ r.has_cause in cc)
+          | inl (inl r) ↦ absurd (let clash : ◌≡◌ {A = Option Cause} None (Some r.cause) = sym going.no_cause ∙ r.has_cause in cc)
           | inl (inr q) ↦ (
-              let same : q.o ≡ a.o = one_connection (exchanges t) q.o a.o place.neighbours.apart q.given.is_opened a.begun (q.given.is_given ∙ sym a.of) in
+              let same : q.o ≡ own = one_connection (exchanges t) q.o own place.neighbours.apart q.given.is_opened going.there (q.given.is_given ∙ sym going.of) in
               by (subst (λ (o : Opened). IsShown known.setup.passing (heard_by o t) (ended_by o t) (is_to_head (items known c.live.stream t)) (offered_by h.read x.box)) same q.shows))
-          | inr none ↦ absurd (none.no_connection a.o (record { is_opened = a.begun; is_given = a.of }))
+          | inr none ↦ absurd (none.no_connection own (record { is_opened = going.there; is_given = going.of }))
         ];
       }
         where
-          by : IsShown known.setup.passing (heard_by a.o t) (ended_by a.o t) (is_to_head (items known c.live.stream t)) (offered_by h.read x.box) → IsBegun Streaming (heard_by a.o t) (ended_by a.o t) (is_to_head (items known a.o.stream t)) (offered_by h.read x.box)
-          by (inl w) = absurd (a.not_whole (subst (λ n. IsComplete (heard_by a.o t) (ended_by a.o t) (is_to_head (items known n t))) (sym a.of) (w.response, w.is_whole)))
+          by : IsShown known.setup.passing (heard_by own t) (ended_by own t) (is_to_head (items known c.live.stream t)) (offered_by h.read x.box) → IsBegun Streaming (heard_by own t) (ended_by own t) (is_to_head (items known own.stream t)) (offered_by h.read x.box)
+          by (inl w) = absurd (going.not_whole (subst (λ n. IsComplete (heard_by own t) (ended_by own t) (is_to_head (items known n t))) (sym going.of) (w.response, w.is_whole)))
           by (inr b) =
-              subst (λ n. IsBegun Streaming (heard_by a.o t) (ended_by a.o t) (is_to_head (items known n t)) (offered_by h.read x.box)) (sym a.of)
-              (subst (λ p. IsBegun p (heard_by a.o t) (ended_by a.o t) (is_to_head (items known c.live.stream t)) (offered_by h.read x.box)) streaming b)
+              subst (λ n. IsBegun Streaming (heard_by own t) (ended_by own t) (is_to_head (items known n t)) (offered_by h.read x.box)) (sym going.of)
+              (subst (λ p. IsBegun p (heard_by own t) (ended_by own t) (is_to_head (items known c.live.stream t)) (offered_by h.read x.box)) streaming b)
 
       bare : receiving.AreUnpadded (sent t)
       bare = all_bare t (unpadded known t (in_turns known run knows leads.stands.allowed))
 
       -- So much takes room of it.
       pub holds_for : HoldsFor known t k c.live.stream kept.offers.kept
-      holds_for = by (offering.find c.live.stream s.offers.kept) refl (place.offering.kept c.live.stream a.active)
+      holds_for = by (offering.find c.live.stream s.offers.kept) refl (place.offering.kept c.live.stream going.active)
         where
           by : (o : Option Kept) → offering.find c.live.stream s.offers.kept ≡ o → IsKeptIf known t c.live.stream o → HoldsFor known t k c.live.stream kept.offers.kept
           by None is h = absurd h
           by (Some x) is h =
               let there : offering.find c.live.stream kept.offers.kept ≡ Some x = sym (ap (λ (b : offering.State). offering.find c.live.stream b.kept) leads.keeps.offers) ∙ is in
               let outbox : HasOutbox known t k x.box = has_outbox x (h.stands (none_cut c.live.stream x there)) in
-              record { box = x; found = there; holds = inr (busy known t k x.box place.neighbours.numbered outbox bare, holds_body known t k x.box place.neighbours.numbered outbox bare) }
+              record { box = x; found = there; holds = inr (busy known t k x.box outbox bare, holds_body known t k x.box outbox bare) }

@@ -51,7 +51,7 @@ in_sender = λ record { waiting = waiting }. held_back (stage_of waiting)
 
 -- in a reader of a response: what it holds unread, and the fields Connection of its head; its spans are numbers
 abbrev pub in_reader : ReaderInside → ℕ
-in_reader = λ record { alloc = alloc; to_head = to_head; place = place; held = held; connections = connections; spans = spans }.
+in_reader = λ record { alloc = alloc; to_head = to_head; place = place; held = held; connections = connections; keeps = keeps; spans = spans }.
     length held.items + field_octets connections.items
 
 -- ---- rooms

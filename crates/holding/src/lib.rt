@@ -16,7 +16,7 @@ ghost use Rattle.relay.specs.View.{View, square, Leads};
 ghost use Rattle.holding.specs.Held.{IsSmall};
 
 /// Where moves led to what the rooms keep, nothing is pending and the gateway rests, little is kept (`IsSmall`):
-/// - at most 100 streams have an outbox, at most 100 requests aren't whole, and at most 100 connections are open;
+/// - at most 100 streams have an outbox, at most 100 requests aren't whole, and at most 108 connections are open, of which at most 8 are idle;
 /// - for each stream at most `max_body + max_response + 400000` octets are kept: what is on offer for it, what is held of its request,
 ///   and the answers that are being read for it, each with what its reader holds unread and the head and the body that wait for its end;
 /// - beside that at most 150,000: the client's header block that isn't complete, and both header tables;
@@ -25,7 +25,7 @@ ghost use Rattle.holding.specs.Held.{IsSmall};
 ///   does the connection is to end (RFC 9113, section 6.9.1).
 ///
 /// Where bodies are passed on whole no stream holds two bodies of a response: a connection that is open at rest isn't done with, so its
-/// response isn't whole, and the outbox of its stream has interim heads alone.
+/// response isn't whole, and the outbox of its stream has interim heads alone; or it is idle, and nothing is kept of its answer, which was handed on.
 ///
 /// The premises, and where each comes from:
 /// - `Leads`: by each part of a step (`relay`); `RestsBehind`: by the step;

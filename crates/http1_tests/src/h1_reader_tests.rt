@@ -8,6 +8,7 @@ use std::test::*;
 
 mod faults;
 mod framings;
+mod keeping;
 mod limits;
 mod passing;
 

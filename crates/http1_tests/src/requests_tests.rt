@@ -32,7 +32,7 @@ fn head_of(
 fn a_request_without_a_body_is_whole(rt: HostRuntime) -> Result<(), Fail> {
     let head = head_of(rt.alloc(), &rt, GET, true)?;
     assert!(rt; head.length().is_none());
-    match begin(rt.alloc(), &head, true, 7)? {
+    match begin(rt.alloc(), &head, true, false, 7)? {
         Begun::Whole(text) => assert_eq!(rt;
             text.as_slice(),
             b"GET / HTTP/1.1\r\nhost: h\r\nvia: 2.0 h2gw\r\nconnection: close\r\n\r\n".as_slice()
@@ -42,13 +42,29 @@ fn a_request_without_a_body_is_whole(rt: HostRuntime) -> Result<(), Fail> {
     Ok(())
 }
 
+#[test]
+fn a_request_says_nothing_of_a_close_where_its_connection_is_kept(
+    rt: HostRuntime,
+) -> Result<(), Fail> {
+    let head = head_of(rt.alloc(), &rt, GET, true)?;
+    assert!(rt; head.length().is_none());
+    match begin(rt.alloc(), &head, true, true, 7)? {
+        Begun::Whole(text) => assert_eq!(rt;
+            text.as_slice(),
+            b"GET / HTTP/1.1\r\nhost: h\r\nvia: 2.0 h2gw\r\n\r\n".as_slice()
+        ),
+        Begun::Waits(_) => panic!(rt; "it waits"),
+    }
+    Ok(())
+}
+
 /// A request that declares no length and waits for its body.
 fn waiting(alloc: Global, rt: &impl Abort) -> Result<Waiting, Fail>
-    ensures { IfOk result (λ request. (parts : HeadParts) × (parts.length ≡ None) × IsBegun parts false 7 (Begun.Waits request)) }
+    ensures { IfOk result (λ request. (parts : HeadParts) × (parts.length ≡ None) × IsBegun false parts false 7 (Begun.Waits request)) }
 {
     let head = head_of(alloc, rt, POST, false)?;
     assert!(rt; head.length().is_none());
-    match begin(alloc, &head, false, 7)? {
+    match begin(alloc, &head, false, false, 7)? {
         Begun::Waits(request) => Ok(request),
         Begun::Whole(_) => Err(Fail::from("whole")),
     }
@@ -116,7 +132,7 @@ const NONE: &[u8] = b":method=PUT|:scheme=http|:path=/|:authority=h|content-leng
 fn a_body_goes_out_in_chunks_as_it_comes(rt: HostRuntime) -> Result<(), Fail> {
     let head = head_of(rt.alloc(), &rt, POST, false)?;
     assert!(rt; head.length().is_none());
-    let Begun::Waits(request) = begin(rt.alloc(), &head, false, 7)? else {
+    let Begun::Waits(request) = begin(rt.alloc(), &head, false, false, 7)? else {
         return Err(Fail::from("whole"));
     };
     let (text, mut going) = request.go();
@@ -136,7 +152,7 @@ fn the_last_octet_is_held_back_until_the_end(rt: HostRuntime) -> Result<(), Fail
     let trailers = two_trailers(rt.alloc())?;
     let head = head_of(rt.alloc(), &rt, FIVE, false)?;
     assert_eq!(rt; head.length(), Some(5));
-    let Begun::Waits(request) = begin(rt.alloc(), &head, false, 7)? else {
+    let Begun::Waits(request) = begin(rt.alloc(), &head, false, false, 7)? else {
         return Err(Fail::from("whole"));
     };
     let (text, mut going) = request.go();
@@ -152,7 +168,7 @@ fn the_last_octet_is_held_back_until_the_end(rt: HostRuntime) -> Result<(), Fail
 fn a_head_that_declares_no_octets_is_whole_with_the_end(rt: HostRuntime) -> Result<(), Fail> {
     let head = head_of(rt.alloc(), &rt, NONE, false)?;
     assert_eq!(rt; head.length(), Some(0));
-    let Begun::Waits(request) = begin(rt.alloc(), &head, false, 7)? else {
+    let Begun::Waits(request) = begin(rt.alloc(), &head, false, false, 7)? else {
         return Err(Fail::from("whole"));
     };
     let (text, mut going) = request.go();

@@ -10,7 +10,7 @@ use Rattle.model.specs.Logs.Act.{Open, ToUp, Close, CloseClient}
 use Rattle.model.specs.Tapes.{Noted}
 use Rattle.model.specs.Tapes.Entry.{Happened, Sent, Did}
 use Rattle.model.specs.StreamStates.{most_streams}
-use Rattle.model.specs.Openings.{given, route_of, begins_another}
+use Rattle.model.specs.Openings.{given}
 use Rattle.model.specs.Causes.{Cause, cause_if}
 use Rattle.model.specs.Causes.Cause.{BadAnswer}
 use Rattle.model.specs.Courses.{upstream_of, first_of_both, interrupts}
@@ -52,11 +52,10 @@ opens_lead setup b k route kept = record {
   owes = acts_owe setup b (Open k route);
 }
 
--- octets that begin no other exchange
-pub puts_lead : (setup : Setup) (b : Book) (k : ℕ) (octets : List ℕ) → AreKept b.rows → begins_another (given k b.given) b.last octets ≡ false → LeadsTo setup false b (Did (ToUp k octets)) b []
-puts_lead setup b k octets kept none = record {
-  book = ap (λ (rows : List Row). record b { given = given_after b.given b.last (Did (ToUp k octets)); rows = rows }) (acts_stay setup b (ToUp k octets) kept)
-      ∙ ap (λ (another : Bool). record b { given = if another then record { k = k; route = route_of k b.given; stream = b.last } ∷ b.given else b.given }) none;
+-- octets, with which another exchange may begin
+pub puts_lead : (setup : Setup) (b : Book) (k : ℕ) (octets : List ℕ) → AreKept b.rows → LeadsTo setup false b (Did (ToUp k octets)) (record b { given = given_after b.given b.last (Did (ToUp k octets)) }) []
+puts_lead setup b k octets kept = record {
+  book = ap (λ (rows : List Row). record b { given = given_after b.given b.last (Did (ToUp k octets)); rows = rows }) (acts_stay setup b (ToUp k octets) kept);
   owes = acts_owe setup b (ToUp k octets);
 }
 

@@ -12,7 +12,8 @@ ghost use Rattle.model.specs.Tapes.{Noted};
 ghost use Rattle.model.specs.Tapes.Note.{Fields};
 ghost use Rattle.model.specs.Tapes.Entry.{Happened, Sent, Did};
 ghost use Rattle.model.specs.Decoding.{Partial, joined};
-ghost use Rattle.model.specs.Openings.{given, begins_another};
+ghost use Rattle.model.specs.Openings.{given};
+ghost use Rattle.conduct.specs.After.{given_after};
 ghost use Rattle.model.specs.WindowsOnTape.{increment};
 ghost use Rattle.model.specs.ErrorClause.{is_calming};
 ghost use Rattle.model.specs.Courses.{upstream_of, is_final};
@@ -40,10 +41,10 @@ pub fn sent_frames_lead()
     ensures control { (setup : Setup) (book : Book) (frame : Frame) → AreKept book.rows → book.block_out ≡ None → IsControl frame → LeadsTo setup false book (sending frame) (paid_of book frame) [] }
 {}
 
-/// What an act leads to: it calls for nothing. Octets for an upstream leave the book as it is where they begin no other exchange.
+/// What an act leads to: it calls for nothing. With octets for an upstream another exchange of its connection may begin (`given_after`).
 pub fn acts_lead()
     ensures opens { (setup : Setup) (book : Book) (k route : ℕ) → AreKept book.rows → LeadsTo setup false book (Did (Open k route)) (record book { given = record { k = k; route = route; stream = book.last } ∷ book.given }) [] }
-    ensures puts { (setup : Setup) (book : Book) (k : ℕ) (octets : List ℕ) → AreKept book.rows → begins_another (given k book.given) book.last octets ≡ false → LeadsTo setup false book (Did (ToUp k octets)) book [] }
+    ensures puts { (setup : Setup) (book : Book) (k : ℕ) (octets : List ℕ) → AreKept book.rows → LeadsTo setup false book (Did (ToUp k octets)) (record book { given = given_after book.given book.last (Did (ToUp k octets)) }) [] }
     ensures closes { (setup : Setup) (book : Book) (k : ℕ) → AreKept book.rows → LeadsTo setup false book (Did (Close k)) book [] }
     ensures shuts { (setup : Setup) (book : Book) → AreKept book.rows → LeadsTo setup false book (Did CloseClient) (record book { closed = true }) [] }
 {}

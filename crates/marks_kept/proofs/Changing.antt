@@ -16,7 +16,7 @@ on_ok P Q (Err e) is so = tt
 module _ (sides : List Side) (id place : ℕ) (rising : AreRising sides) (is : IsAt sides id place) (side : Side) (read : side ≡ get_or sides place side) where
   -- the stream that is read
   stands : at sides place ≡ side
-  stands = get_or_default sides place (opened 0 0) side is.within ∙ sym read
+  stands = get_or_default sides place (opened 0 0 0 0) side is.within ∙ sym read
 
   pub found : find id sides ≡ Some side
   found = find_at id sides place rising is ∙ ap Some stands
@@ -32,5 +32,5 @@ module _ (sides : List Side) (id place : ℕ) (rising : AreRising sides) (is : I
   -- with its id in its place, ids rise
   pub rising_to : (new : Side) → new.id ≡ side.id → AreRising (set sides place new)
   rising_to new same =
-      let f : Side → Side = λ x. record { id = x.id; k = new.k; out = new.out; took = new.took; queue = new.queue } in
-      subst AreRising (sym (changed_to f new (ap (λ n. let it : Side = record { id = n; k = new.k; out = new.out; took = new.took; queue = new.queue } in it) same))) (rising_changed id f sides (λ x. refl) rising)
+      let f : Side → Side = λ x. record { id = x.id; k = new.k; out = new.out; took = new.took; queue = new.queue; past = new.past } in
+      subst AreRising (sym (changed_to f new (ap (λ n. let it : Side = record { id = n; k = new.k; out = new.out; took = new.took; queue = new.queue; past = new.past } in it) same))) (rising_changed id f sides (λ x. refl) rising)

@@ -3,8 +3,8 @@ use Rattle.std.proofs.Common.{◌≡◌, ℕ, zero, suc, ◌<◌, ◌≤◌, ◌
 use Rattle.std.specs.Prelude.{Some, Result, Ok, Err, OnOk, OnErr}
 use Rattle.receiving.specs.Marks.{total}
 use Rattle.receiving_queue.specs.Counts.{AreSome}
-use Rattle.receiving_queue.proofs.Counted.{few, pushed_some}
-use Rattle.marks_kept.specs.Sides.{Side, opened, find, without, waiting, queue_if, queue_of}
+use Rattle.receiving_queue.proofs.Counted.{few, pushed_some, popped_some}
+use Rattle.marks_kept.specs.Sides.{Side, find, without, taking, waiting, queue_if, queue_of, waits_on, taking_behind}
 use Rattle.marks_kept.specs.Places.{at, AllAreSome}
 
 -- ---- what is so of one stream
@@ -51,6 +51,15 @@ some_without id (side ∷ sides) all = by (side.id == id) (some_without id sides
     by false rest = (all.0, rest)
 
 -- one joins
-pub some_joined : (id k : ℕ) (sides : List Side) → AllAreSome sides → AllAreSome (sides ++ opened id k ∷ [])
-some_joined id k [] all = (tt, tt)
-some_joined id k (side ∷ sides) all = (all.0, some_joined id k sides all.1)
+pub some_joined : (last : Side) (sides : List Side) → AreSome last.queue → AllAreSome sides → AllAreSome (sides ++ last ∷ [])
+some_joined last [] some all = (some, tt)
+some_joined last (side ∷ sides) some all = (all.0, some_joined last sides some all.1)
+
+-- so many octets of a connection are taken by now
+pub some_taken : (k taken : ℕ) (sides : List Side) → AllAreSome sides → AllAreSome (taking_behind k taken sides)
+some_taken k taken [] all = tt
+some_taken k taken (side ∷ sides) all = (by (waits_on k side), some_taken k taken sides all.1)
+  where
+    by : (b : Bool) → AreSome (if b then taking taken side else side).queue
+    by true = popped_some taken side.queue all.0
+    by false = all.0

@@ -1,6 +1,6 @@
 -- What is found where one stream changes, goes or joins.
 use Rattle.std.proofs.Common.{◌≡◌, ◌≢◌, ℕ, ◌<◌, ◌==◌, ◌&&◌, ◌||◌, not, if◌then◌else◌, Bool, true, false, List, [], ◌∷◌, ◌++◌, refl, sym, ap, ◌∙◌, subst, inl, inr}
-use Rattle.std.specs.Prelude.{Option, Some, None}
+use Rattle.std.specs.Prelude.{Option, Some, None, map, option_map}
 use Rattle.std.specs.List.{list_any}
 use Rattle.std.proofs.lemmas.Bool.{eq-eqb, ne_eqb, lt-ltb}
 use Rattle.std.proofs.lemmas.Bool.Decides.{eqb_tells}
@@ -41,6 +41,30 @@ module _ (id : ℕ) (f : Side → Side) (keeps_id : (x : Side) → (f x).id ≡ 
         ap (λ b. find other (if b then f x ∷ sides else x ∷ change id f sides)) off.0
         ∙ ap (λ rest. if x.id == other then Some x else rest) (changed_other other sides apart)
   ]
+
+-- one of which nothing is kept stays so
+pub changed_none : (id : ℕ) (f : Side → Side) → ((x : Side) → (f x).id ≡ x.id) → (other : ℕ) (sides : List Side) → find other sides ≡ None → find other (change id f sides) ≡ None
+changed_none id f keeps_id other [] none = refl
+changed_none id f keeps_id other (x ∷ sides) none = elim (eqb_tells x.id other) [
+  | inl own ↦ absurd (let no : ◌≡◌ {A = Option Side} (Some x) None = sym (here other x sides true own.0) ∙ none in cc)
+  | inr off ↦ by (x.id == id) (changed_none id f keeps_id other sides (sym (here other x sides false off.0) ∙ none)) (sym (here other x sides false off.0) ∙ none) off.0
+]
+  where
+    by : (b : Bool) → find other (change id f sides) ≡ None → find other sides ≡ None → (x.id == other) ≡ false → find other (if b then f x ∷ sides else x ∷ change id f sides) ≡ None
+    by true more rest off = ap (λ c. if c then Some (f x) else find other sides) (ap (λ n. n == other) (keeps_id x) ∙ off) ∙ rest
+    by false more rest off = here other x (change id f sides) false off ∙ more
+
+-- ---- all change
+
+pub mapped_found : (f : Side → Side) → ((x : Side) → (f x).id ≡ x.id) → (id : ℕ) (sides : List Side) → find id (map f sides) ≡ option_map f (find id sides)
+mapped_found f keeps_id id [] = refl
+mapped_found f keeps_id id (x ∷ sides) =
+    ap (λ n. if n == id then Some (f x) else find id (map f sides)) (keeps_id x)
+    ∙ by (x.id == id) (mapped_found f keeps_id id sides)
+  where
+    by : (b : Bool) → find id (map f sides) ≡ option_map f (find id sides) → (if b then Some (f x) else find id (map f sides)) ≡ option_map f (if b then Some x else find id sides)
+    by true more = refl
+    by false more = more
 
 -- ---- one goes
 

@@ -1,8 +1,8 @@
 -- Streams whose ids rise: how they stand in a list, and that changes keep it so.
 use Rattle.std.proofs.Common.{◌≡◌, ℕ, zero, suc, ◌<◌, ◌==◌, ◌&&◌, if◌then◌else◌, Bool, true, false, nat_lt, List, [], ◌∷◌, ◌++◌, length, set, refl, sym, ap, ◌∙◌, arith}
-use Rattle.std.specs.Prelude.{Option, Some, None, remove}
+use Rattle.std.specs.Prelude.{Option, Some, None, map, remove}
 use Rattle.std.proofs.lemmas.Bool.{and_parts, eq-eqb, ne_eqb, ltb-true}
-use Rattle.marks_kept.specs.Sides.{Side, opened, find, change, without, is_above_all}
+use Rattle.marks_kept.specs.Sides.{Side, find, change, without, is_above_all}
 use Rattle.marks_kept.specs.Places.{at, is_below_all, AreRising, IsAt}
 
 -- ---- by places
@@ -128,14 +128,22 @@ rising_without id (side ∷ sides) rising = by (side.id == id) (rising_without i
     by true rest = rest
     by false rest = (below_without side.id id sides rising.0, rest)
 
-below_more : (n id k : ℕ) (sides : List Side) → is_below_all n sides ≡ true → nat_lt n id ≡ true → is_below_all n (sides ++ opened id k ∷ []) ≡ true
-below_more n id k [] below less = ap (λ b. b && true) less
-below_more n id k (side ∷ sides) below less =
+below_more : (n : ℕ) (last : Side) (sides : List Side) → is_below_all n sides ≡ true → nat_lt n last.id ≡ true → is_below_all n (sides ++ last ∷ []) ≡ true
+below_more n last [] below less = ap (λ b. b && true) less
+below_more n last (side ∷ sides) below less =
     let parts = and_parts (nat_lt n side.id) (is_below_all n sides) below in
-    ap (λ b. b && is_below_all n (sides ++ opened id k ∷ [])) parts.0 ∙ below_more n id k sides parts.1 less
+    ap (λ b. b && is_below_all n (sides ++ last ∷ [])) parts.0 ∙ below_more n last sides parts.1 less
 
-pub rising_more : (id k : ℕ) (sides : List Side) → is_above_all id sides ≡ true → AreRising sides → AreRising (sides ++ opened id k ∷ [])
-rising_more id k [] above rising = (refl, tt)
-rising_more id k (side ∷ sides) above rising =
-    let parts = and_parts (nat_lt side.id id) (is_above_all id sides) above in
-    (below_more side.id id k sides rising.0 parts.0, rising_more id k sides parts.1 rising.1)
+pub rising_more : (last : Side) (sides : List Side) → is_above_all last.id sides ≡ true → AreRising sides → AreRising (sides ++ last ∷ [])
+rising_more last [] above rising = (refl, tt)
+rising_more last (side ∷ sides) above rising =
+    let parts = and_parts (nat_lt side.id last.id) (is_above_all last.id sides) above in
+    (below_more side.id last sides rising.0 parts.0, rising_more last sides parts.1 rising.1)
+
+below_mapped : (n : ℕ) (f : Side → Side) (sides : List Side) → ((side : Side) → (f side).id ≡ side.id) → is_below_all n (map f sides) ≡ is_below_all n sides
+below_mapped n f [] same = refl
+below_mapped n f (side ∷ sides) same = ap (λ i. nat_lt n i && is_below_all n (map f sides)) (same side) ∙ ap (λ b. nat_lt n side.id && b) (below_mapped n f sides same)
+
+pub rising_mapped : (f : Side → Side) (sides : List Side) → ((side : Side) → (f side).id ≡ side.id) → AreRising sides → AreRising (map f sides)
+rising_mapped f [] same rising = tt
+rising_mapped f (side ∷ sides) same rising = (ap (λ n. is_below_all n (map f sides)) (same side) ∙ below_mapped side.id f sides same ∙ rising.0, rising_mapped f sides same rising.1)

@@ -1,6 +1,6 @@
 -- How many octets lie in this crate's types. Each count takes the struct apart by the names of all its fields, and counts each by its type: what lies in
 -- one field more has to be counted here.
-use Rattle.std.specs.Prelude.{ℕ, ◌+◌, List, sum_by}
+use Rattle.std.specs.Prelude.{ℕ, ◌+◌, Bool, List, sum_by}
 use Rattle.receiving.specs.Marks.{Mark}
 use Rattle.receiving_queue.specs.HeldInside.{in_number}
 use Rattle.marks_kept.specs.Sides.{Side}
@@ -11,14 +11,18 @@ use Rattle.marks_kept.specs.declared.side.Side.TheInside.{Inside as SideInside}
 abbrev pub in_queue : List Mark → ℕ
 in_queue marks = 0
 
+-- none in a flag
+abbrev pub in_flag : Bool → ℕ
+in_flag flag = 0
+
 -- in what waits of a stream's DATA
 abbrev pub in_side : SideInside → ℕ
-in_side = λ record { id = id; number = number; put_out = put_out; taken = taken; queue = queue }.
-    in_number id + in_number number + in_number put_out + in_number taken + in_queue queue
+in_side = λ record { id = id; number = number; put_out = put_out; taken = taken; queue = queue; past = past }.
+    in_number id + in_number number + in_number put_out + in_number taken + in_queue queue + in_flag past
 
 -- none in what is seen of it, and so in that of all
 abbrev pub in_side_seen : Side → ℕ
 in_side_seen side = 0
 
 abbrev pub in_marks : MarksInside → ℕ
-in_marks = λ record { alloc = alloc; sides = sides }. sum_by in_side_seen sides.items
+in_marks = λ record { alloc = alloc; sides = sides; behind = behind }. sum_by in_side_seen sides.items + in_number behind

@@ -6,7 +6,7 @@ use Rattle.marks_kept.specs.Sides.{Side, opened}
 
 -- the stream at a place
 abbrev pub at : List Side → ℕ → Side
-at sides place = slice_index_or sides place (opened 0 0)
+at sides place = slice_index_or sides place (opened 0 0 0 0)
 
 -- an id is below those of all
 abbrev pub is_below_all : ℕ → List Side → Bool

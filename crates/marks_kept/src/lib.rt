@@ -4,7 +4,8 @@
 
 pub mod laws;
 mod marks;
+mod older;
 mod places;
 mod side;
 
-pub use crate::marks::Marks;
+pub use crate::marks::{Marks, Taken};

@@ -3,12 +3,13 @@ use Rattle.std.proofs.Common.{◌≡◌, ℕ, Bool, true, false, not, ◌&&◌, 
 use Rattle.std.proofs.lemmas.List.{append-nil}
 use Rattle.std.proofs.lemmas.Bool.{ne_eqb, eq-eqb, and_right}
 use Rattle.std.proofs.lemmas.Bool.Decides.{eqb_tells}
+use Rattle.model.specs.Logs.Event.{Client, ClientEnd, ClientTook, Up, UpEnd, UpFailed, UpTook}
 use Rattle.model.specs.Logs.Act.{Open, ToUp, Close, CloseClient}
 use Rattle.model.specs.Tapes.{Entry, sent_up}
 use Rattle.model.specs.Tapes.Entry.{Came, Breached, Happened, Sent, Did}
 use Rattle.model.specs.Openings.{Opened, opens, last_stream, given, route_of, begins_another, exchanges, exchanges_of, exchange_on, is_of, sent_for, texts_of, IsGivenNone, AreApart, GoToOpen}
 use Rattle.model.specs.Admission.{is_open}
-use Rattle.model.specs.Available.{IsIn}
+use Rattle.model.specs.Available.{heard_by, ended_by, IsIn}
 use Rattle.model.specs.Known.{Known}
 use Rattle.model.specs.Idle.{IsIdle, FewAreIdle}
 use Rattle.model.specs.RequestClause.{IfAnother, MayBeUsedAgain, BeginInTime}
@@ -16,7 +17,7 @@ use Rattle.model.proofs.DeliveryReadings.{given_none}
 use Rattle.model.proofs.GivenLaws.{open_given}
 
 -- the exchange that octets begin
-abbrev another_on : ℕ → List Entry → Opened
+abbrev pub another_on : ℕ → List Entry → Opened
 another_on k t = record { k = k; route = route_of k (exchanges t); stream = last_stream t }
 
 -- the exchange that a connection is opened for
@@ -71,6 +72,14 @@ newest_in k (p ∷ os) o i e = elim (eqb_tells p.k k) [
     | inl same ↦ absurd (x.1 (sym (ap (λ (z : Opened). z.k) same) ∙ e))
     | inr rest ↦ inr (subst (λ (z : Opened). IsIn z os) (λ j. record { k = k; route = sym (ap (λ b. if b then p.route else route_of k os) x.0) j; stream = sym (ap (λ b. if b then p.stream else given k os) x.0) j }) (newest_in k os o rest e))
   ]
+]
+
+-- so has one that was given to a stream
+pub given_in : (k : ℕ) (os : List Opened) → (given k os ≡ 0 → ⊥) → IsIn (record { k = k; route = route_of k os; stream = given k os }) os
+given_in k [] some = some refl
+given_in k (p ∷ os) some = elim (eqb_tells p.k k) [
+  | inl x ↦ newest_in k (p ∷ os) p (inl refl) x.1
+  | inr x ↦ inr (subst (λ (z : Opened). IsIn z os) (λ j. record { k = k; route = sym (ap (λ b. if b then p.route else route_of k os) x.0) j; stream = sym (ap (λ b. if b then p.stream else given k os) x.0) j }) (given_in k os (λ e. some (ap (λ b. if b then p.stream else given k os) x.0 ∙ e))))
 ]
 
 -- an open connection has one
@@ -131,6 +140,37 @@ nothing_sent o (Did (ToUp k (octet ∷ octets)) ∷ t) n g = elim (eqb_tells o.s
 ]
 nothing_sent o (Did (Close k) ∷ t) n g = nothing_sent o t n g
 nothing_sent o (Did CloseClient ∷ t) n g = nothing_sent o t n g
+
+-- ---- what was heard of an exchange
+
+-- a connection was given to a stream of its exchanges, if to any
+pub given_one : (k s : ℕ) (os : List Opened) → IsGivenNone s os → (s ≡ 0 → ⊥) → s ≡ given k os → ⊥
+given_one k s [] n some e = some e
+given_one k s (o ∷ os) n some e = elim (eqb_tells o.k k) [
+  | inl x ↦ n.0 (e ∙ ap (λ b. if b then o.stream else given k os) x.0)
+  | inr x ↦ given_one k s os n.1 some (e ∙ ap (λ b. if b then o.stream else given k os) x.0)
+]
+
+apart_of : (o : Opened) (k : ℕ) (os : List Opened) → IsGivenNone o.stream os → (o.stream ≡ 0 → ⊥) → is_of o k (given k os) ≡ false
+apart_of o k os n some = ap (λ b. o.k == k && b) (ne_eqb o.stream (given k os) (given_one k o.stream os n some)) ∙ and_right (o.k == k) false refl
+
+-- Nothing was heard for a stream that was given none.
+pub unheard : (o : Opened) (t : List Entry) → IsGivenNone o.stream (exchanges t) → (o.stream ≡ 0 → ⊥) → (heard_by o t ≡ []) × (ended_by o t ≡ false)
+unheard o [] n some = (refl, refl)
+unheard o (Came noted ∷ t) n some = unheard o t n some
+unheard o (Breached breach ∷ t) n some = unheard o t n some
+unheard o (Happened (Client piece) ∷ t) n some = unheard o t n some
+unheard o (Happened ClientEnd ∷ t) n some = unheard o t n some
+unheard o (Happened (ClientTook count) ∷ t) n some = unheard o t n some
+unheard o (Happened (Up k piece) ∷ t) n some = let more = unheard o t n some in (ap (λ b. if b then heard_by o t ++ piece else heard_by o t) (apart_of o k (exchanges t) n some) ∙ more.0, more.1)
+unheard o (Happened (UpEnd k) ∷ t) n some = let more = unheard o t n some in (more.0, ap (λ b. if b then true else ended_by o t) (apart_of o k (exchanges t) n some) ∙ more.1)
+unheard o (Happened (UpFailed k) ∷ t) n some = unheard o t n some
+unheard o (Happened (UpTook k count) ∷ t) n some = unheard o t n some
+unheard o (Sent noted ∷ t) n some = unheard o t n some
+unheard o (Did (Open k route) ∷ t) n some = unheard o t n.1 some
+unheard o (Did (ToUp k octets) ∷ t) n some = unheard o t (none_before o.stream k octets t n) some
+unheard o (Did (Close k) ∷ t) n some = unheard o t n some
+unheard o (Did CloseClient ∷ t) n some = unheard o t n some
 
 -- ---- what a connection was sent
 

@@ -17,7 +17,7 @@ use Rattle.model.specs.Lifetimes.{opened, opens_by, is_opened, is_over, is_activ
 use Rattle.model.proofs.OpenedLaws.{opens_new}
 use Rattle.model.proofs.ActiveLaws.{active_beside, active_control, active_came}
 use Rattle.offering.specs.State.{Kept, State, Move, find, change, without, unless_over, told, gone, answered, answered_if, blank, with_new, entry_of, after, state_of}
-use Rattle.offering.specs.State.Move.{Takes, Breaks, Notes, Hears, Fails, Goes, Sends, Acts}
+use Rattle.offering.specs.State.Move.{Takes, Breaks, Notes, Hears, Fails, Idles, Goes, Sends, Acts}
 use Rattle.offering.specs.Policy.{Holds, IsOpened}
 use Rattle.offering.specs.Rule.{Seen as Step, moves_of, tape_of, AllMayCome, AreRight, AreTold}
 use Rattle.offering.specs.Held.{AreDistinct}
@@ -179,6 +179,7 @@ next_active known t s (Breaks breach) offering holds h = h
 next_active known t s (Notes event) offering holds h = h
 next_active known t s (Hears event stream news) offering holds h = ids_changed stream (told news) s.kept (λ k. refl) ∙ h
 next_active known t s (Fails event stream) offering holds h = ids_changed stream (answered BadAnswer) s.kept (answered_id BadAnswer) ∙ h
+next_active known t s (Idles event) offering holds h = h
 next_active known t s (Goes noted item part over) offering holds h =
     let on : is_active noted.frame.id t ≡ true = sym (offering.lives noted.frame.id) ∙ ap (λ o. is_some o) holds.0.found in
     ids_go known t (Sent noted ∷ t) s (change noted.frame.id (gone part) s.kept) h over noted.frame.id (ids_changed noted.frame.id (gone part) s.kept (λ k. refl))
@@ -261,6 +262,7 @@ next_distinct known t s (Breaks breach) holds d = d
 next_distinct known t s (Notes event) holds d = d
 next_distinct known t s (Hears event stream news) holds d = subst AreDistinct (sym (ids_changed stream (told news) s.kept (λ k. refl))) d
 next_distinct known t s (Fails event stream) holds d = subst AreDistinct (sym (ids_changed stream (answered BadAnswer) s.kept (answered_id BadAnswer))) d
+next_distinct known t s (Idles event) holds d = d
 next_distinct known t s (Goes noted item part over) holds d = distinct_left over noted.frame.id (change noted.frame.id (gone part) s.kept) s.kept (ids_changed noted.frame.id (gone part) s.kept (λ k. refl)) d
 next_distinct known t s (Sends noted) holds d = distinct_left (noted.frame.kind == rst_stream_kind) noted.frame.id s.kept s.kept refl d
 next_distinct known t s (Acts act) holds d = d

@@ -1,28 +1,28 @@
 -- Which entries leave what is on offer for a stream as it is.
-use Rattle.std.proofs.Common.{◌≡◌, ℕ, zero, suc, Bool, true, false, ◌==◌, ◌&&◌, ◌||◌, List, [], ◌∷◌, ◌++◌, refl, sym, ap, ◌∙◌, inl, inr, arith, if◌then◌else◌, subst}
+use Rattle.std.proofs.Common.{◌≡◌, ℕ, zero, suc, ◌<◌, Bool, true, false, ◌==◌, ◌&&◌, ◌||◌, List, [], ◌∷◌, ◌++◌, refl, sym, ap, ◌∙◌, inl, inr, arith, if◌then◌else◌, subst}
 use Rattle.std.specs.Prelude.{Option, Some, None, is_some, nat_lt}
 use Rattle.std.specs.List.{list_any}
 use Rattle.std.proofs.lemmas.List.{append-nil}
 use Rattle.std.proofs.lemmas.Bool.{ne_eqb}
+use Rattle.std.proofs.lemmas.Bool.Decides.{eqb_tells}
 use Rattle.model.specs.Messages.{Item}
 use Rattle.model.specs.Messages.Item.{Block, Content}
 use Rattle.model.specs.Logs.{Event, Act}
 use Rattle.model.specs.Logs.Event.{Client, ClientEnd, ClientTook, Up, UpEnd, UpFailed, UpTook}
-use Rattle.model.specs.Logs.Act.{Open, ToUp, Close, CloseClient}
 use Rattle.model.specs.ResponseHeads.{Head}
-use Rattle.model.specs.Deliveries.{heads_in}
+use Rattle.model.specs.Deliveries.{Delivery, heads_in}
 use Rattle.model.specs.Tapes.{Noted, Breach, Entry, sent}
 use Rattle.model.specs.Tapes.Entry.{Came, Breached, Happened, Sent, Did}
 use Rattle.model.specs.Streams.{items_of}
-use Rattle.model.specs.Openings.{Opened, exchanges, given, last_stream, AreNumbered}
-use Rattle.model.specs.Available.{heard_by, ended_by, items_on, IsIn}
+use Rattle.model.specs.Openings.{Opened, exchanges, route_of, given, is_of}
+use Rattle.model.specs.Available.{heard_by, ended_by, items_on, IsIn, IsShown}
 use Rattle.model.specs.Known.{Known, fails_behind}
 use Rattle.model.specs.Causes.{Cause, cause_if}
 use Rattle.model.specs.Causes.Cause.{BadAnswer}
 use Rattle.model.specs.ErrorTable.{fault_with}
 use Rattle.model.specs.Courses.{Course, course, carried, items, about, upstream_of, cause_at, cause_of, first_of_both, interrupts, is_final}
 use Rattle.model.specs.Offers.{is_to_head, IsGiven}
-use Rattle.model.proofs.GivenLaws.{given_is, given_zero}
+use Rattle.model.proofs.ExchangeLaws.{given_in}
 use Rattle.offering.proofs.Standing.{SameOffer}
 
 -- ---- the course of a stream, where the entry is no cause for it
@@ -126,8 +126,7 @@ sent_quiet known t noted stream = record {
   there = λ o g. record { is_opened = g.is_opened; is_given = g.is_given };
   back = λ o g. record { is_opened = g.is_opened; is_given = g.is_given };
   head = λ o g. ap is_to_head (items_stay known stream t (Sent noted) refl);
-  heard = λ o g. refl;
-  ended = λ o g. refl;
+  still = λ o g d shown. shown;
 }
 
 pub breach_quiet : (known : Known) (t : List Entry) (breach : Breach) (stream : ℕ) → SameOffer known t (Breached breach ∷ t) stream
@@ -138,46 +137,33 @@ breach_quiet known t breach stream = record {
   there = λ o g. record { is_opened = g.is_opened; is_given = g.is_given };
   back = λ o g. record { is_opened = g.is_opened; is_given = g.is_given };
   head = λ o g. ap is_to_head (items_stay known stream t (Breached breach) refl);
-  heard = λ o g. refl;
-  ended = λ o g. refl;
+  still = λ o g d shown. shown;
 }
 
--- the act opens a connection for the stream
-abbrev pub OpensFor : List Entry → Act → ℕ → Type 0
-OpensFor t (Open k route) stream = last_stream t ≡ stream
-OpensFor t _ stream = ⊥
-
--- the act begins no other exchange on a connection that is open
-abbrev pub BeginsNone : List Entry → Act → Type 0
-BeginsNone t (ToUp k octets) = exchanges (Did (ToUp k octets) ∷ t) ≡ exchanges t
-BeginsNone t _ = Unit {0}
-
-pub act_quiet : (known : Known) (t : List Entry) (act : Act) (stream : ℕ) → (OpensFor t act stream → ⊥) → BeginsNone t act → SameOffer known t (Did act ∷ t) stream
-act_quiet known t act stream other none = record {
+-- an act that begins no exchange of the stream
+acts_quiet : (known : Known) (t : List Entry) (act : Act) (stream : ℕ) → ((o : Opened) → IsIn o (exchanges t) → IsIn o (exchanges (Did act ∷ t))) → ((o : Opened) → o.stream ≡ stream → IsIn o (exchanges (Did act ∷ t)) → IsIn o (exchanges t)) → SameOffer known t (Did act ∷ t) stream
+acts_quiet known t act stream there back = record {
   cause = cause_stays known stream t (Did act) (none_by_did known stream t act);
   out = out_stays known stream t (Did act) (none_by_did known stream t act);
   heads = heads_stay known stream t (Did act) (none_by_did known stream t act);
-  there = there act none;
-  back = back act other none;
+  there = λ o g. record { is_opened = there o g.is_opened; is_given = g.is_given };
+  back = λ o g. record { is_opened = back o g.is_given g.is_opened; is_given = g.is_given };
   head = λ o g. ap is_to_head (items_stay known stream t (Did act) refl);
-  heard = λ o g. refl;
-  ended = λ o g. refl;
+  still = λ o g d shown. shown;
 }
-  where
-    there : (act : Act) → BeginsNone t act → (o : Opened) → IsGiven t stream o → IsGiven (Did act ∷ t) stream o
-    there (Open k route) none o g = record { is_opened = inr g.is_opened; is_given = g.is_given }
-    there (ToUp k octets) none o g = record { is_opened = subst (IsIn o) (sym none) g.is_opened; is_given = g.is_given }
-    there (Close k) none o g = record { is_opened = g.is_opened; is_given = g.is_given }
-    there CloseClient none o g = record { is_opened = g.is_opened; is_given = g.is_given }
 
-    back : (act : Act) → (OpensFor t act stream → ⊥) → BeginsNone t act → (o : Opened) → IsGiven (Did act ∷ t) stream o → IsGiven t stream o
-    back (Open k route) other none o g = elim g.is_opened [
-      | inl new ↦ absurd (other (sym (ap (λ (x : Opened). x.stream) new) ∙ g.is_given))
-      | inr old ↦ record { is_opened = old; is_given = g.is_given }
-    ]
-    back (ToUp k octets) other none o g = record { is_opened = subst (IsIn o) none g.is_opened; is_given = g.is_given }
-    back (Close k) other none o g = record { is_opened = g.is_opened; is_given = g.is_given }
-    back CloseClient other none o g = record { is_opened = g.is_opened; is_given = g.is_given }
+-- one that begins none
+pub act_quiet : (known : Known) (t : List Entry) (act : Act) (stream : ℕ) → exchanges (Did act ∷ t) ≡ exchanges t → SameOffer known t (Did act ∷ t) stream
+act_quiet known t act stream same = acts_quiet known t act stream (λ o i. subst (IsIn o) (sym same) i) (λ o its i. subst (IsIn o) same i)
+
+-- one that begins another stream's
+pub begins_quiet : (known : Known) (t : List Entry) (act : Act) (stream : ℕ) (new : Opened) → exchanges (Did act ∷ t) ≡ new ∷ exchanges t → (new.stream ≡ stream → ⊥) → SameOffer known t (Did act ∷ t) stream
+begins_quiet known t act stream new now other = acts_quiet known t act stream
+    (λ o i. subst (IsIn o) (sym now) (inr i))
+    (λ o its i. elim (subst (IsIn o) now i) [
+      | inl is ↦ absurd (other (sym (ap (λ (x : Opened). x.stream) is) ∙ its))
+      | inr old ↦ old
+    ])
 
 -- a frame of the client that is no cause for the stream
 pub came_quiet : (known : Known) (t : List Entry) (noted : Noted) (stream : ℕ) → (course known stream t).cause ≡ (course known stream (Came noted ∷ t)).cause → (course known stream t).head_out ≡ (course known stream (Came noted ∷ t)).head_out → (course known stream t).heads_out ≡ (course known stream (Came noted ∷ t)).heads_out → ((o : Opened) → IsIn o (exchanges t) → items known o.stream t ≡ [] → ⊥) → SameOffer known t (Came noted ∷ t) stream
@@ -188,8 +174,7 @@ came_quiet known t noted stream cause out heads begun = record {
   there = λ o g. record { is_opened = g.is_opened; is_given = g.is_given };
   back = λ o g. record { is_opened = g.is_opened; is_given = g.is_given };
   head = λ o g. head_stays known stream t (Came noted) (λ e. begun o g.is_opened (ap (λ n. items known n t) g.is_given ∙ e));
-  heard = λ o g. refl;
-  ended = λ o g. refl;
+  still = λ o g d shown. shown;
 }
 
 -- a frame on another stream
@@ -199,44 +184,68 @@ none_by_other known stream t noted other =
 
 -- ---- events
 
--- the event is of no connection of the stream
-abbrev pub IsElsewhere : List Entry → Event → ℕ → Type 0
-IsElsewhere t event stream = (o : Opened) → IsGiven t stream o → o.k ≡ upstream_of event → ⊥
+-- the event isn't of the exchange: of another connection, or of one that another stream was given since
+abbrev pub IsBeside : List Entry → Event → Opened → Type 0
+IsBeside t event o = o.k ≡ upstream_of event → o.stream ≡ about t (Happened event) → ⊥
 
-pub heard_same : (t : List Entry) (event : Event) (o : Opened) → (o.k ≡ upstream_of event → ⊥) → heard_by o t ≡ heard_by o (Happened event ∷ t)
-heard_same t (Client piece) k other = refl
-heard_same t ClientEnd k other = refl
-heard_same t (ClientTook count) k other = refl
-heard_same t (Up j piece) k other = sym (ap (λ b. if b && k.stream == given j (exchanges t) then heard_by k t ++ piece else heard_by k t) (ne_eqb k.k j other))
-heard_same t (UpEnd j) k other = refl
-heard_same t (UpFailed j) k other = refl
-heard_same t (UpTook j count) k other = refl
+beside : (o : Opened) (k stream : ℕ) → (o.k ≡ k → o.stream ≡ stream → ⊥) → is_of o k stream ≡ false
+beside o k stream other = elim (eqb_tells o.k k) [
+  | inl x ↦ ap (λ b. b && o.stream == stream) x.0 ∙ ne_eqb o.stream stream (other x.1)
+  | inr x ↦ ap (λ b. b && o.stream == stream) x.0
+]
 
-pub ended_same : (t : List Entry) (event : Event) (o : Opened) → (o.k ≡ upstream_of event → ⊥) → ended_by o t ≡ ended_by o (Happened event ∷ t)
-ended_same t (Client piece) k other = refl
-ended_same t ClientEnd k other = refl
-ended_same t (ClientTook count) k other = refl
-ended_same t (Up j piece) k other = refl
-ended_same t (UpEnd j) k other = sym (ap (λ b. if b && k.stream == given j (exchanges t) then true else ended_by k t) (ne_eqb k.k j other))
-ended_same t (UpFailed j) k other = refl
-ended_same t (UpTook j count) k other = refl
+pub heard_same : (t : List Entry) (event : Event) (o : Opened) → IsBeside t event o → heard_by o t ≡ heard_by o (Happened event ∷ t)
+heard_same t (Client piece) o other = refl
+heard_same t ClientEnd o other = refl
+heard_same t (ClientTook count) o other = refl
+heard_same t (Up k piece) o other = sym (ap (λ b. if b then heard_by o t ++ piece else heard_by o t) (beside o k (given k (exchanges t)) other))
+heard_same t (UpEnd k) o other = refl
+heard_same t (UpFailed k) o other = refl
+heard_same t (UpTook k count) o other = refl
 
-pub event_quiet : (known : Known) (t : List Entry) (event : Event) (stream : ℕ) → cause_of known stream t (Happened event) ≡ None → IsElsewhere t event stream → SameOffer known t (Happened event ∷ t) stream
-event_quiet known t event stream none other = record {
+ended_same : (t : List Entry) (event : Event) (o : Opened) → IsBeside t event o → ended_by o t ≡ ended_by o (Happened event ∷ t)
+ended_same t (Client piece) o other = refl
+ended_same t ClientEnd o other = refl
+ended_same t (ClientTook count) o other = refl
+ended_same t (Up k piece) o other = refl
+ended_same t (UpEnd k) o other = sym (ap (λ b. if b then true else ended_by o t) (beside o k (given k (exchanges t)) other))
+ended_same t (UpFailed k) o other = refl
+ended_same t (UpTook k count) o other = refl
+
+-- What is shown of an answer before the event is shown behind it, where the request is of this stream.
+abbrev pub StaysShown : Known → List Entry → Event → Opened → ℕ → Type 0
+StaysShown known t event o stream =
+    (d : Delivery) → IsShown known.setup.passing (heard_by o t) (ended_by o t) (is_to_head (items known stream t)) d → IsShown known.setup.passing (heard_by o (Happened event ∷ t)) (ended_by o (Happened event ∷ t)) (is_to_head (items known stream t)) d
+
+pub shown_beside : (known : Known) (t : List Entry) (event : Event) (o : Opened) (stream : ℕ) → IsBeside t event o → StaysShown known t event o stream
+shown_beside known t event o stream other d shown =
+    subst (λ x. IsShown known.setup.passing (heard_by o (Happened event ∷ t)) x (is_to_head (items known stream t)) d) (ended_same t event o other)
+    (subst (λ x. IsShown known.setup.passing x (ended_by o t) (is_to_head (items known stream t)) d) (heard_same t event o other) shown)
+
+-- an event that is no cause for the stream, and leaves what is shown of its exchanges
+pub event_quiet : (known : Known) (t : List Entry) (event : Event) (stream : ℕ) → cause_of known stream t (Happened event) ≡ None → ((o : Opened) → IsGiven t stream o → StaysShown known t event o stream) → SameOffer known t (Happened event ∷ t) stream
+event_quiet known t event stream none still = record {
   cause = cause_stays known stream t (Happened event) none;
   out = out_stays known stream t (Happened event) none;
   heads = heads_stay known stream t (Happened event) none;
   there = λ o g. record { is_opened = g.is_opened; is_given = g.is_given };
   back = λ o g. record { is_opened = g.is_opened; is_given = g.is_given };
   head = λ o g. ap is_to_head (items_stay known stream t (Happened event) refl);
-  heard = λ o g. heard_same t event o (other o g);
-  ended = λ o g. ended_same t event o (other o g);
+  still = still;
 }
 
+-- no stream was given a connection 0
+given_zero : (os : List Opened) → ((o : Opened) → IsIn o os → 0 < o.k) → given 0 os ≡ 0
+given_zero os counted = by (given 0 os) refl
+  where
+    by : (n : ℕ) → given 0 os ≡ n → n ≡ 0
+    by zero e = refl
+    by (suc n) e = let above : 0 < 0 = counted (record { k = 0; route = route_of 0 os; stream = given 0 os }) (given_in 0 os (λ none. let clash : suc n ≡ 0 = sym e ∙ none in omega (arith, clash))) in omega (arith, above)
+
 -- the event is of no connection
-pub none_of_nobody : (known : Known) (stream : ℕ) (t : List Entry) (event : Event) → AreNumbered (exchanges t) → upstream_of event ≡ 0 → cause_of known stream t (Happened event) ≡ None
-none_of_nobody known stream t event numbered nobody =
-    let about_is : about t (Happened event) ≡ 0 = ap (λ n. given n (exchanges t)) nobody ∙ given_zero (exchanges t) numbered in
+pub none_of_nobody : (known : Known) (stream : ℕ) (t : List Entry) (event : Event) → ((o : Opened) → IsIn o (exchanges t) → 0 < o.k) → upstream_of event ≡ 0 → cause_of known stream t (Happened event) ≡ None
+none_of_nobody known stream t event counted nobody =
+    let about_is : about t (Happened event) ≡ 0 = ap (λ n. given n (exchanges t)) nobody ∙ given_zero (exchanges t) counted in
     ap (λ n. if n == stream && nat_lt 0 stream then cause_if (fails_behind known t) BadAnswer else None) about_is ∙ nobodys stream (cause_if (fails_behind known t) BadAnswer)
   where
     nobodys : (stream : ℕ) (c : Option Cause) → (if 0 == stream && nat_lt 0 stream then c else None) ≡ None
@@ -249,8 +258,6 @@ none_unless_fails known stream t event holds =
     ap (λ b. if about t (Happened event) == stream && nat_lt 0 stream then cause_if b BadAnswer else None) holds ∙ no_cause_if (about t (Happened event) == stream && nat_lt 0 stream)
 
 -- the event is of another stream's connection
-pub none_elsewhere : (known : Known) (stream : ℕ) (t : List Entry) (event : Event) (o : Opened) → AreNumbered (exchanges t) → IsIn o (exchanges t) → o.k ≡ upstream_of event → (o.stream ≡ stream → ⊥) → cause_of known stream t (Happened event) ≡ None
-none_elsewhere known stream t event o numbered is_in k other =
-    let about_is : about t (Happened event) ≡ o.stream = ap (λ n. given n (exchanges t)) (sym k) ∙ given_is (exchanges t) o numbered is_in in
-    ap (λ n. if n == stream && nat_lt 0 stream then cause_if (fails_behind known t) BadAnswer else None) about_is
-    ∙ ap (λ b. if b && nat_lt 0 stream then cause_if (fails_behind known t) BadAnswer else None) (ne_eqb o.stream stream other)
+pub none_elsewhere : (known : Known) (stream : ℕ) (t : List Entry) (event : Event) → (about t (Happened event) ≡ stream → ⊥) → cause_of known stream t (Happened event) ≡ None
+none_elsewhere known stream t event other =
+    ap (λ b. if b && nat_lt 0 stream then cause_if (fails_behind known t) BadAnswer else None) (ne_eqb (about t (Happened event)) stream other)

@@ -15,7 +15,7 @@ use Rattle.model.specs.ResponseHeads.{Head}
 use Rattle.model.specs.Lifetimes.{active}
 use Rattle.model.specs.WindowsOnTape.{is_on, data_octets}
 use Rattle.model.specs.Tapes.Note.{NoBlock, Fields}
-use Rattle.model.specs.Openings.{exchanges, AreNumbered, AreApart}
+use Rattle.model.specs.Openings.{exchanges, AreApart}
 use Rattle.model.specs.Available.{items_on, IsIn}
 use Rattle.model.specs.Known.{Known}
 use Rattle.model.specs.Causes.{reply_head}
@@ -102,7 +102,7 @@ abbrev pub answered : List Move
 answered = Goes reply_noted (Block not_found true) (Final (reply_head NoRoute) true) true ∷ asked
 
 no_neighbours : (t : List Entry) → exchanges t ≡ [] → Neighbours elsewhere t
-no_neighbours t e = record { off = refl; numbered = subst AreNumbered (sym e) tt; apart = subst AreApart (sym e) tt; begun = λ o i. absurd (subst (IsIn o) e i) }
+no_neighbours t e = record { counted = λ o i. absurd (subst (IsIn o) e i); apart = subst AreApart (sym e) tt; begun = λ o i. absurd (subst (IsIn o) e i) }
 
 -- each of the first three moves is allowed
 greeted_allowed : AreAllowed elsewhere greeted

@@ -20,13 +20,14 @@ use Rattle.model.proofs.DeliveryReadings.{one_delivery}
 use Rattle.model.proofs.OfferLaws.{one_offer}
 use Rattle.offering.specs.Outbox.{offered_by, can_go}
 use Rattle.offering.specs.State.{Kept, State, Move, start, find, are_open, is_ready, is_ready_if, can_turn, ready, entry_of, after, state_of}
-use Rattle.offering.specs.State.Move.{Takes, Breaks, Notes, Hears, Fails, Goes, Sends, Acts}
+use Rattle.offering.specs.State.Move.{Takes, Breaks, Notes, Hears, Fails, Idles, Goes, Sends, Acts}
 use Rattle.offering.specs.Policy.{Neighbours, windows_on, Holds, AreAllowed, IsFlushed, KeepClauses}
 use Rattle.model.proofs.HeadLaws.{nothing_reads}
 use Rattle.offering.proofs.Listing.{filter_in, filter_out, found_among}
 use Rattle.offering.proofs.Going.{goes_by_outbox, outbox_goes}
 use Rattle.offering.proofs.Offering.{IsHeld, IsKeptIf, Offering, breaks_keep, notes_keep, sends_keep}
 use Rattle.offering.proofs.Moving.{hears_keep, fails_keep, goes_keep, acts_keep}
+use Rattle.offering.proofs.Idling.{idles_keep}
 use Rattle.offering.proofs.Taking.{takes_keep}
 
 -- ---- each move
@@ -36,7 +37,8 @@ moves_keep known t s (Takes noted change) n h may = takes_keep known t s noted c
 moves_keep known t s (Breaks breach) n h may = breaks_keep known t s breach h
 moves_keep known t s (Notes event) n h may = notes_keep known t s event n h may
 moves_keep known t s (Hears event stream news) n h may = hears_keep known t s event stream news n h may
-moves_keep known t s (Fails event stream) n h may = fails_keep known t s event stream n h may
+moves_keep known t s (Fails event stream) n h may = fails_keep known t s event stream h may
+moves_keep known t s (Idles event) n h may = idles_keep known t s event n h may
 moves_keep known t s (Goes noted item part over) n h may = goes_keep known t s noted item part over h may.0 may.1
 moves_keep known t s (Sends noted) n h may = sends_keep known t s noted h may
 moves_keep known t s (Acts act) n h may = acts_keep known t s act h may

@@ -1,13 +1,13 @@
 -- What each outbox holds of octets is bounded: heads by what a response may have of them, bodies by their limit or by the room of
 -- upstreams.
-use Rattle.std.proofs.Common.{◌≡◌, ℕ, ◌+◌, ◌-◌, ◌*◌, ◌≤◌, Bool, true, false, ◌==◌, List, [], ◌∷◌, ◌++◌, length, drop, length-append, length-drop, refl, sym, ap, ◌∙◌, subst, inl, inr, arith, if◌then◌else◌, ◌&&◌}
+use Rattle.std.proofs.Common.{◌≡◌, ℕ, ◌+◌, ◌-◌, ◌*◌, ◌≤◌, Bool, true, false, ◌==◌, List, [], ◌∷◌, ◌++◌, length, drop, length-append, length-drop, refl, sym, ap, ◌∙◌, subst, inl, inr, arith, if◌then◌else◌}
 use Rattle.std.specs.Prelude.{Option, Some, None, is_some, All, sum_by}
 use Rattle.std.proofs.lemmas.List.{append-nil, length-map, length-reverse}
 use Rattle.std.proofs.lemmas.List.Elements.{All-cons, All-nil, All-head, All-tail, All-push}
 use Rattle.std.proofs.lemmas.List.Sums.{sum_by-le}
-use Rattle.std.proofs.lemmas.Bool.{eq-eqb}
 use Rattle.model.specs.ResponseHeads.{Head, longest_section}
-use Rattle.model.specs.Responses.{Seen}
+use Rattle.model.specs.Messages.{Field}
+use Rattle.model.specs.Responses.{H1Response, IsComplete, Seen}
 use Rattle.model.specs.Logs.{Event}
 use Rattle.model.specs.Logs.Event.{Client, ClientEnd, ClientTook, Up, UpEnd, UpFailed, UpTook}
 use Rattle.model.specs.Setup.{Setup, Passing}
@@ -20,23 +20,22 @@ use Rattle.model.specs.Available.{heard_by, ended_by, items_on, shown, IsShown}
 use Rattle.model.specs.Admission.{room, is_open}
 use Rattle.model.specs.WindowsOnTape.{is_on, data_octets}
 use Rattle.model.specs.Rooms.{HasRoomBeside, IsRoom, FitsRoom}
-use Rattle.model.proofs.ExchangeLaws.{no_idle, newest_in}
-use Rattle.model.proofs.DeliveryReadings.{one_number}
+use Rattle.model.proofs.PastLaws.{heard_own}
 use Rattle.model.specs.Known.{Known}
 use Rattle.model.specs.Causes.{Cause}
 use Rattle.model.specs.Causes.Cause.{BadAnswer}
 use Rattle.model.specs.Frames.{rst_stream_kind}
 use Rattle.model.specs.Courses.{course, items, upstream_of}
 use Rattle.model.specs.Offers.{is_to_head, IsGiven}
+use Rattle.model.specs.Idle.{is_asked_for_head, IsIdle}
 use Rattle.model.specs.Failures.{AreJudged}
 use Rattle.model.specs.Lifetimes.{active}
 use Rattle.model.proofs.DeliveryReadings.{one_connection}
-use Rattle.model.proofs.GivenLaws.{given_is}
 use Rattle.offering.specs.Outbox.{trailers_at, Outbox, silent, replied, offered_by, Fits, Part, left, rest_of, grown}
 use Rattle.offering.specs.Outbox.Outbox.{Before, Behind, Over}
 use Rattle.offering.specs.Outbox.Part.{Early, Final, Octets, Trailing}
 use Rattle.offering.specs.State.{Kept, State, Move, find, change, without, unless_over, told, gone, answered_box, answered, answered_if, blank, with_new, kept_after, entry_of, state_of}
-use Rattle.offering.specs.State.Move.{Takes, Breaks, Notes, Hears, Fails, Goes, Sends, Acts}
+use Rattle.offering.specs.State.Move.{Takes, Breaks, Notes, Hears, Fails, Idles, Goes, Sends, Acts}
 use Rattle.offering.specs.Policy.{Neighbours, MayHear, Holds}
 use Rattle.offering.specs.Sight.{Sight}
 use Rattle.offering.specs.Rule.{MayCome, Seen as Step, moves_of, tape_of, sight_of, AllMayCome, AreRight, AreTold}
@@ -111,6 +110,7 @@ module _ (P : Outbox → Type 0) (none : P silent) (reply : (cause : Cause) → 
   all_behind ks (Notes event) news all = all
   all_behind ks (Hears event stream fresh) news all = all_changed stream (told fresh) ks news all
   all_behind ks (Fails event stream) news all = all_changed stream (answered BadAnswer) ks (λ k found p. answered_so BadAnswer k k.box p) all
+  all_behind ks (Idles event) news all = all
   all_behind ks (Goes noted item part over) news all = all_left over noted.frame.id (change noted.frame.id (gone part) ks) (all_changed noted.frame.id (gone part) ks (λ k found p. goes k.box part p) all)
   all_behind ks (Sends noted) news all = all_left (noted.frame.kind == rst_stream_kind) noted.frame.id ks all
   all_behind ks (Acts act) news all = all
@@ -123,38 +123,37 @@ pub record Heard (known : Known) (t : List Entry) (event : Event) (stream : ℕ)
   pub read : Delivery
   pub reads : ReadsAs (items_on stream (sent t)) read
   pub fits : Fits read box
-  pub o : Opened
-  pub given : IsGiven t stream o
-  pub number : o.k ≡ upstream_of event
+  pub given : IsGiven t stream (exchange_on (upstream_of event) t)
   pub no_cause : (course known stream (Happened event ∷ t)).cause ≡ None
-  pub before : IsShown known.setup.passing (heard_by o t) (ended_by o t) (is_to_head (items known stream t)) (offered_by read box)
+  pub before : IsShown known.setup.passing (heard_by (exchange_on (upstream_of event) t) t) (ended_by (exchange_on (upstream_of event) t) t) (is_to_head (items known stream t)) (offered_by read box)
   pub not_whole : (offered_by read box).ends ≡ None
-  pub behind : IsShown known.setup.passing (heard_by o (Happened event ∷ t)) (ended_by o (Happened event ∷ t)) (is_to_head (items known stream t)) (offered_by read (grown box news))
+  pub behind : IsShown known.setup.passing (heard_by (exchange_on (upstream_of event) t) (Happened event ∷ t)) (ended_by (exchange_on (upstream_of event) t) (Happened event ∷ t)) (is_to_head (items known stream t)) (offered_by read (grown box news))
 
 module _ (known : Known) (t : List Entry) (event : Event) (stream : ℕ) (news : Delivery) (n : Neighbours known t) (may : MayHear known t event stream news) where
+  abbrev newest : Opened
+  newest = exchange_on (upstream_of event) t
+
   -- what stands there is shown of the connection's answer
   heard_of : (box : Outbox) → Stands known t stream box → Heard known t event stream news box
   heard_of box h = elim h.offer [
     | inl (inl r) ↦ absurd (let clash : ◌≡◌ {A = Option Cause} None (Some r.cause) = sym may.of.no_cause ∙ r.has_cause in cc)
     | inl (inr q) ↦ (
-        let same : q.o ≡ may.of.o = one_connection (exchanges t) q.o may.of.o n.apart q.given.is_opened may.of.given.is_opened (q.given.is_given ∙ sym may.of.given.is_given) in
-        let before : IsShown known.setup.passing (heard_by may.of.o t) (ended_by may.of.o t) (is_to_head (items known stream t)) (offered_by h.read box) =
+        let same : q.o ≡ newest = one_connection (exchanges t) q.o newest n.apart q.given.is_opened may.of.given.is_opened (q.given.is_given ∙ sym may.of.given.is_given) in
+        let before : IsShown known.setup.passing (heard_by newest t) (ended_by newest t) (is_to_head (items known stream t)) (offered_by h.read box) =
         subst (λ (x : Opened). IsShown known.setup.passing (heard_by x t) (ended_by x t) (is_to_head (items known stream t)) (offered_by h.read box)) same q.shows in
         let not_whole = may.tells.not_whole (offered_by h.read box) before in
         record {
           read = h.read;
           reads = h.reads;
           fits = h.fits;
-          o = may.of.o;
           given = may.of.given;
-          number = may.of.number;
           no_cause = sym (cause_stays known stream t (Happened event) (none_unless_fails known stream t event may.sound)) ∙ may.of.no_cause;
           before = before;
           not_whole = not_whole;
-          behind = subst (IsShown known.setup.passing (heard_by may.of.o (Happened event ∷ t)) (ended_by may.of.o (Happened event ∷ t)) (is_to_head (items known stream t)))
+          behind = subst (IsShown known.setup.passing (heard_by newest (Happened event ∷ t)) (ended_by newest (Happened event ∷ t)) (is_to_head (items known stream t)))
               (news_join h.read box news h.fits not_whole (may.tells.none_late (offered_by h.read box) before)) (may.tells.shows (offered_by h.read box) before);
         })
-    | inr none ↦ absurd (none.no_connection may.of.o may.of.given)
+    | inr none ↦ absurd (none.no_connection newest may.of.given)
   ]
 
 -- a stream that is found is active, and its record is held
@@ -172,6 +171,7 @@ module _ (known : Known) (t : List Entry) (s : State) (before behind : Sight) (n
   leaves_news (Breaks breach) holds may by = tt
   leaves_news (Notes event) holds may by = tt
   leaves_news (Fails event stream) holds may by = tt
+  leaves_news (Idles event) holds may by = tt
   leaves_news (Goes noted item part over) holds may by = tt
   leaves_news (Sends noted) holds may by = tt
   leaves_news (Acts act) holds may by = tt
@@ -277,11 +277,12 @@ whole_shown known text ended to_head most d whole seen (inr b) =
 
 whole_news : (known : Known) (t : List Entry) (event : Event) (stream : ℕ) (news : Delivery) (box : Outbox) → known.setup.passing ≡ Whole → NoneTooLong known (Happened event ∷ t) → Heard known t event stream news box → IsWithin known.setup.max_response (grown box news)
 whole_news known t event stream news box whole short h =
-    let stream_is : h.o.stream ≡ stream = h.given.is_given in
-    let kept = whole_shown known (heard_by h.o (Happened event ∷ t)) (ended_by h.o (Happened event ∷ t)) (is_to_head (items known stream t)) known.setup.max_response (offered_by h.read (grown box news)) whole
-    (λ interims head octets seen. seen_kept known (Happened event ∷ t) h.o interims head octets short whole h.given.is_opened
+    let o = exchange_on (upstream_of event) t in
+    let stream_is : o.stream ≡ stream = h.given.is_given in
+    let kept = whole_shown known (heard_by o (Happened event ∷ t)) (ended_by o (Happened event ∷ t)) (is_to_head (items known stream t)) known.setup.max_response (offered_by h.read (grown box news)) whole
+    (λ interims head octets seen. seen_kept known (Happened event ∷ t) o interims head octets short whole h.given.is_opened
     (ap (λ id. (course known id (Happened event ∷ t)).cause) stream_is ∙ h.no_cause)
-    (subst (λ b. Seen (heard_by h.o (Happened event ∷ t)) b interims head octets) (ap is_to_head (items_stay known stream t (Happened event) refl) ∙ ap (λ id. is_to_head (items known id (Happened event ∷ t))) (sym stream_is)) seen)) h.behind in
+    (subst (λ b. Seen (heard_by o (Happened event ∷ t)) b interims head octets) (ap is_to_head (items_stay known stream t (Happened event) refl) ∙ ap (λ id. is_to_head (items known id (Happened event ∷ t))) (sym stream_is)) seen)) h.behind in
     let within = within_offered h.read (grown box news) in
     omega (arith, kept, within)
 
@@ -292,14 +293,14 @@ abbrev pub piece_of : Event → List ℕ
 piece_of (Up k piece) = piece
 piece_of _ = []
 
-heard_more : (t : List Entry) (event : Event) (o : Opened) → o.k ≡ upstream_of event → given (upstream_of event) (exchanges t) ≡ o.stream → heard_by o (Happened event ∷ t) ≡ heard_by o t ++ piece_of event
-heard_more t (Up j piece) k same its = ap (λ b. if b && k.stream == given j (exchanges t) then heard_by k t ++ piece else heard_by k t) (eq-eqb k.k j same) ∙ ap (λ b. if b then heard_by k t ++ piece else heard_by k t) (eq-eqb k.stream (given j (exchanges t)) (sym its))
-heard_more t (Client piece) k same its = sym (append-nil (heard_by k t))
-heard_more t ClientEnd k same its = sym (append-nil (heard_by k t))
-heard_more t (ClientTook count) k same its = sym (append-nil (heard_by k t))
-heard_more t (UpEnd j) k same its = sym (append-nil (heard_by k t))
-heard_more t (UpFailed j) k same its = sym (append-nil (heard_by k t))
-heard_more t (UpTook j count) k same its = sym (append-nil (heard_by k t))
+heard_more : (t : List Entry) (event : Event) → heard_by (exchange_on (upstream_of event) t) (Happened event ∷ t) ≡ heard_by (exchange_on (upstream_of event) t) t ++ piece_of event
+heard_more t (Up k piece) = heard_own k piece t
+heard_more t (Client piece) = sym (append-nil (heard_by (exchange_on 0 t) t))
+heard_more t ClientEnd = sym (append-nil (heard_by (exchange_on 0 t) t))
+heard_more t (ClientTook count) = sym (append-nil (heard_by (exchange_on 0 t) t))
+heard_more t (UpEnd k) = sym (append-nil (heard_by (exchange_on k t) t))
+heard_more t (UpFailed k) = sym (append-nil (heard_by (exchange_on k t) t))
+heard_more t (UpTook k count) = sym (append-nil (heard_by (exchange_on 0 t) t))
 
 -- What is shown of an answer that is passed on as it comes is seen in its text.
 pub record IsSeen (text : List ℕ) (to_head : Bool) (octets : List ℕ) : Type 0 where
@@ -325,15 +326,28 @@ offered_size items_read read (Before interims head body whole) r f = let none : 
 offered_size items_read read (Behind body whole) r f = length-append read.body body
 offered_size items_read read Over r f = omega arith
 
-module _ (known : Known) (t : List Entry) (event : Event) (stream : ℕ) (news : Delivery) (box : Outbox) (n : Neighbours known t) (streaming : known.setup.passing ≡ Streaming) (h : Heard known t event stream news box) where
+module _ (known : Known) (t : List Entry) (event : Event) (stream : ℕ) (news : Delivery) (box : Outbox) (streaming : known.setup.passing ≡ Streaming) (h : Heard known t event stream news box) where
   abbrev to_head : Bool
   to_head = is_to_head (items known stream t)
 
-  seen_before : IsSeen (heard_by h.o t) to_head (offered_by h.read box).body
-  seen_before = shown_seen known.setup.passing (heard_by h.o t) (ended_by h.o t) to_head (offered_by h.read box) streaming h.before
+  abbrev o : Opened
+  o = exchange_on (upstream_of event) t
 
-  seen_behind : IsSeen (heard_by h.o (Happened event ∷ t)) to_head (offered_by h.read (grown box news)).body
-  seen_behind = shown_seen known.setup.passing (heard_by h.o (Happened event ∷ t)) (ended_by h.o (Happened event ∷ t)) to_head (offered_by h.read (grown box news)) streaming h.behind
+  seen_before : IsSeen (heard_by o t) to_head (offered_by h.read box).body
+  seen_before = shown_seen known.setup.passing (heard_by o t) (ended_by o t) to_head (offered_by h.read box) streaming h.before
+
+  seen_behind : IsSeen (heard_by o (Happened event ∷ t)) to_head (offered_by h.read (grown box news)).body
+  seen_behind = shown_seen known.setup.passing (heard_by o (Happened event ∷ t)) (ended_by o (Happened event ∷ t)) to_head (offered_by h.read (grown box news)) streaming h.behind
+
+  -- its connection isn't idle, since its response isn't whole
+  not_idle : IsIdle known t (upstream_of event) → ⊥
+  not_idle idle =
+      let a = idle.kept.answered in
+      by h.before (a.response, subst (λ id. H1Response (heard_by o t) (ended_by o t) (is_to_head (items known id t)) a.response) h.given.is_given (subst (λ b. H1Response (heard_by o t) b (is_asked_for_head known o t) a.response) (sym idle.kept.not_ended) a.reads))
+    where
+      by : IsShown known.setup.passing (heard_by o t) (ended_by o t) to_head (offered_by h.read box) → IsComplete (heard_by o t) (ended_by o t) to_head → ⊥
+      by (inl a) whole = let clash : ◌≡◌ {A = Option (List Field)} (Some a.response.trailers) None = sym (ap (λ (x : Delivery). x.ends) a.says) ∙ h.not_whole in cc
+      by (inr b) whole = b.not_whole whole
 
   fits_behind : Fits h.read (grown box news)
   fits_behind = fits_grown h.read box news h.fits
@@ -341,28 +355,28 @@ module _ (known : Known) (t : List Entry) (event : Event) (stream : ℕ) (news :
   -- no more waits than waited and came
   waits_more : length (body_waiting (grown box news)) ≤ length (body_waiting box) + length (piece_of event)
   waits_more =
-      let grows = seen_grows (heard_by h.o t) (piece_of event) to_head seen_before.interims seen_behind.interims seen_before.head seen_behind.head (offered_by h.read box).body (offered_by h.read (grown box news)).body seen_before.seen
-      (subst (λ text. Seen text to_head seen_behind.interims seen_behind.head (offered_by h.read (grown box news)).body) (heard_more t event h.o h.number (ap (λ j. given j (exchanges t)) (sym h.number) ∙ given_is (exchanges t) h.o n.numbered h.given.is_opened)) seen_behind.seen) in
+      let grows = seen_grows (heard_by o t) (piece_of event) to_head seen_before.interims seen_behind.interims seen_before.head seen_behind.head (offered_by h.read box).body (offered_by h.read (grown box news)).body seen_before.seen
+      (subst (λ text. Seen text to_head seen_behind.interims seen_behind.head (offered_by h.read (grown box news)).body) (heard_more t event) seen_behind.seen) in
       let old = offered_size (items_on stream (sent t)) h.read box h.reads h.fits in
       let new = offered_size (items_on stream (sent t)) h.read (grown box news) h.reads fits_behind in
       omega (arith, grows, old, new)
 
   -- what came fits beside what waited
-  room_left : (k : ℕ) (piece : List ℕ) → h.o.k ≡ k → AreUnpadded t → FitsRoom known t (Up k piece) → length piece ≤ most_streamed - length (body_waiting box)
+  room_left : (k : ℕ) (piece : List ℕ) → upstream_of event ≡ k → AreUnpadded t → FitsRoom known t (Up k piece) → length piece ≤ most_streamed - length (body_waiting box)
   room_left k piece same bare fits =
-      let stream_is : given k (exchanges t) ≡ stream = ap (λ j. given j (exchanges t)) (sym same) ∙ given_is (exchanges t) h.o n.numbered h.given.is_opened ∙ h.given.is_given in
+      let stream_is : given k (exchanges t) ≡ stream = ap (λ j. given j (exchanges t)) (sym same) ∙ h.given.is_given in
       let octets = (offered_by h.read box).body in
       let beside : HasRoomBeside known (exchange_on k t) t (room k t - (length octets - data_octets (is_on (given k (exchanges t))) (sent t))) = record {
         interims = seen_before.interims;
         head = seen_before.head;
         octets = octets;
-        seen = subst (λ (o : Opened). Seen (heard_by o t) (is_to_head (items known (given k (exchanges t)) t)) seen_before.interims seen_before.head octets) (one_number (exchanges t) h.o (exchange_on k t) n.numbered h.given.is_opened (newest_in k (exchanges t) h.o h.given.is_opened same) same)
-            (subst (λ id. Seen (heard_by h.o t) (is_to_head (items known id t)) seen_before.interims seen_before.head octets) (sym stream_is) seen_before.seen);
+        seen = subst (λ j. Seen (heard_by (exchange_on j t) t) (is_to_head (items known (given k (exchanges t)) t)) seen_before.interims seen_before.head octets) same
+            (subst (λ id. Seen (heard_by o t) (is_to_head (items known id t)) seen_before.interims seen_before.head octets) (sym stream_is) seen_before.seen);
         is = refl;
       } in
       let fitted : length piece ≤ room k t - (length octets - data_octets (is_on (given k (exchanges t))) (sent t)) =
       fits (room k t - (length octets - data_octets (is_on (given k (exchanges t))) (sent t)))
-      (subst (λ p. IsRoom p known k t (room k t - (length octets - data_octets (is_on (given k (exchanges t))) (sent t)))) (sym streaming) (inr (no_idle known t k n.off, beside))) in
+      (subst (λ p. IsRoom p known k t (room k t - (length octets - data_octets (is_on (given k (exchanges t))) (sent t)))) (sym streaming) (inr (λ idle. not_idle (subst (IsIdle known t) (sym same) idle), beside))) in
       let counts : data_octets (is_on (given k (exchanges t))) (sent t) ≡ data_octets (is_on stream) (sent t) = ap (λ id. data_octets (is_on id) (sent t)) stream_is in
       let within = data_within stream t bare in
       let size = read_size (items_on stream (sent t)) h.read h.reads in
@@ -376,9 +390,9 @@ module _ (known : Known) (t : List Entry) (event : Event) (stream : ℕ) (news :
 
   -- So no more waits than the room is.
   streamed_news : AreUnpadded t → FitsRoom known t event → IsWithin most_streamed box → IsWithin most_streamed (grown box news)
-  streamed_news bare fits w = by event fits h.number waits_more
+  streamed_news bare fits w = by event fits refl waits_more
     where
-      by : (e : Event) → FitsRoom known t e → h.o.k ≡ upstream_of e → length (body_waiting (grown box news)) ≤ length (body_waiting box) + length (piece_of e) → IsWithin most_streamed (grown box news)
+      by : (e : Event) → FitsRoom known t e → upstream_of event ≡ upstream_of e → length (body_waiting (grown box news)) ≤ length (body_waiting box) + length (piece_of e) → IsWithin most_streamed (grown box news)
       by (Up k piece) fits same more = let left = room_left k piece same bare fits in omega (arith, left, more, w)
       by (Client piece) fits same more = omega (arith, more, w)
       by ClientEnd fits same more = omega (arith, more, w)
@@ -413,7 +427,7 @@ all_few known (x ∷ run) may right told =
     let s = state_of (moves_of run) in
     all_behind FewWait (record { few = omega arith; short = All-nil IsShort; trailers = omega arith }) few_replied few_left s.kept x.move
     (leaves_news known (tape_of run) s (sight_of run) x.sight old.1.neighbours old.1.offering FewWait x.move new.0.2 may.1
-    (λ event stream news box is h p. few_offered h.read (grown box news) (shown_few known.setup.passing (heard_by h.o (Happened event ∷ tape_of run)) (ended_by h.o (Happened event ∷ tape_of run)) (is_to_head (items known stream (tape_of run))) (offered_by h.read (grown box news)) h.behind)))
+    (λ event stream news box is h p. few_offered h.read (grown box news) (shown_few known.setup.passing (heard_by (exchange_on (upstream_of event) (tape_of run)) (Happened event ∷ tape_of run)) (ended_by (exchange_on (upstream_of event) (tape_of run)) (Happened event ∷ tape_of run)) (is_to_head (items known stream (tape_of run))) (offered_by h.read (grown box news)) h.behind)))
     (all_few known run may.0 right.0 told.0)
 
 -- Where responses are passed on whole, no more of a body waits than may be kept.
@@ -440,7 +454,7 @@ all_streamed known (x ∷ run) may right told fit bare streaming =
     let s = state_of (moves_of run) in
     all_behind (IsWithin most_streamed) (omega arith) (λ cause. omega arith) (within_left most_streamed) s.kept x.move
     (leaves_news known (tape_of run) s (sight_of run) x.sight old.1.neighbours old.1.offering (IsWithin most_streamed) x.move new.0.2 may.1
-    (λ event stream news box is h p. streamed_news known (tape_of run) event stream news box old.1.neighbours streaming h (bare_before (tape_of run) (entry_of x.move) bare)
+    (λ event stream news box is h p. streamed_news known (tape_of run) event stream news box streaming h (bare_before (tape_of run) (entry_of x.move) bare)
     (subst (λ m. FitRooms known (entry_of m ∷ tape_of run)) is fit).0 p))
     (all_streamed known run may.0 right.0 told.0 (fitted_before known (tape_of run) (entry_of x.move) fit) (bare_before (tape_of run) (entry_of x.move) bare) streaming)
 

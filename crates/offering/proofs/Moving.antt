@@ -1,5 +1,5 @@
 -- Each move that is allowed keeps the invariant of the outboxes: those that change a stream's outbox.
-use Rattle.std.proofs.Common.{◌≡◌, ℕ, Bool, true, not, ◌&&◌, List, [], ◌∷◌, refl, sym, ap, ◌∙◌, subst, inl, inr, if◌then◌else◌, false}
+use Rattle.std.proofs.Common.{◌≡◌, ℕ, Bool, true, not, ◌&&◌, List, [], ◌∷◌, refl, sym, ap, ◌∙◌, subst, inl, inr, if◌then◌else◌, false, arith}
 use Rattle.std.specs.Prelude.{Some, None, is_some, nat_lt}
 use Rattle.std.proofs.lemmas.Bool.{eq-eqb, not-true, lt-ltb}
 use Rattle.std.proofs.lemmas.Bool.Decides.{eqb_tells}
@@ -8,22 +8,23 @@ use Rattle.model.specs.Logs.{Event, Act}
 use Rattle.model.specs.Logs.Act.{Open, ToUp, Close, CloseClient}
 use Rattle.model.specs.Tapes.{Noted, Entry}
 use Rattle.model.specs.Tapes.Entry.{Happened, Sent, Did}
-use Rattle.model.specs.Openings.{Opened, exchanges, given, last_stream, AreNumbered, route_of, begins_another}
+use Rattle.model.specs.Openings.{Opened, exchanges, exchange_on, given, last_stream, route_of, begins_another}
+use Rattle.model.specs.Available.{heard_by, ended_by, IsIn}
 use Rattle.model.specs.Known.{Known, fails_behind}
 use Rattle.model.specs.Causes.{cause_if}
 use Rattle.model.specs.Causes.Cause.{BadAnswer}
 use Rattle.model.specs.Lifetimes.{is_active}
-use Rattle.model.specs.Courses.{about, cause_of}
+use Rattle.model.specs.Courses.{about, upstream_of, cause_of}
 use Rattle.model.specs.Offers.{is_to_head, IsDelivered}
 use Rattle.model.specs.Deliveries.{Delivery}
-use Rattle.model.proofs.DeliveryReadings.{one_number}
+use Rattle.model.proofs.DeliveryReadings.{given_none}
+use Rattle.model.proofs.ExchangeLaws.{another_on, unheard}
 use Rattle.offering.specs.Outbox.{Part, IsNext}
 use Rattle.offering.specs.State.{Kept, State, find, change, told, gone, answered, after}
 use Rattle.offering.specs.State.Move.{Hears, Fails, Goes, Acts}
-use Rattle.offering.specs.Policy.{Neighbours, windows_on, MayGo, Brings, IsOf, MayHear, MayGiveUp, MayOpen, MayDo}
+use Rattle.offering.specs.Policy.{Neighbours, windows_on, MayGo, Brings, IsOf, MayHear, MayGiveUp, MayBegin, MayDo}
 use Rattle.offering.proofs.Standing.{SameOffer, stands_sent, delivered_sent, stands_told, stands_given, delivered_same}
-use Rattle.offering.proofs.Entries.{cause_stays, out_stays, items_stay, none_by_did, sent_quiet, act_quiet, IsElsewhere, event_quiet, none_unless_fails, none_elsewhere}
-use Rattle.model.proofs.GivenLaws.{given_is}
+use Rattle.offering.proofs.Entries.{cause_stays, out_stays, items_stay, none_by_did, sent_quiet, act_quiet, begins_quiet, shown_beside, event_quiet, none_unless_fails, none_elsewhere}
 use Rattle.offering.proofs.Keeping.{KeepsId, answered_id, find_changed, find_other, some_mapped}
 use Rattle.model.proofs.ActiveLaws.{active_sent, active_beside, brought, brought_other}
 use Rattle.offering.proofs.Offering.{IsHeld, IsKeptIf, Offering, kept_unless, lives_unless, kept_same, kept_still, kept_by, held_answered, caused_now, out_now, heads_now, offering_quiet}
@@ -47,15 +48,12 @@ module _ (known : Known) (t : List Entry) (e : Entry) (stream : ℕ) (f : Kept �
     | inr x ↦ subst (IsKeptIf known (e ∷ t) other) (sym (find_other stream other f ks keeps x.1)) (there other x.1 a h)
   ]
 
-module _ (known : Known) (t : List Entry) (event : Event) (stream : ℕ) (n : Neighbours known t) (of : IsOf known t event stream) where
-  -- the event is of no other stream's connection
-  elsewhere : (other : ℕ) → (stream ≡ other → ⊥) → IsElsewhere t event other
-  elsewhere other apart o g k =
-      let same : o ≡ of.o = one_number (exchanges t) o of.o n.numbered g.is_opened of.given.is_opened (k ∙ sym of.number) in
-      apart (sym of.given.is_given ∙ sym (ap (λ (x : Opened). x.stream) same) ∙ g.is_given)
-
+module _ (known : Known) (t : List Entry) (event : Event) (stream : ℕ) (of : IsOf known t event stream) where
+  -- the event is of no other stream's exchange
   others_quiet : (other : ℕ) → (stream ≡ other → ⊥) → SameOffer known t (Happened event ∷ t) other
-  others_quiet other apart = event_quiet known t event other (none_elsewhere known other t event of.o n.numbered of.given.is_opened of.number (λ e. apart (sym of.given.is_given ∙ e))) (elsewhere other apart)
+  others_quiet other apart =
+      event_quiet known t event other (none_elsewhere known other t event (λ e. apart (sym of.given.is_given ∙ e)))
+      (λ o g. shown_beside known t event o other (λ k s. apart (sym of.given.is_given ∙ sym s ∙ g.is_given)))
 
   -- the outbox of the event's stream changes
   pub event_keeps : (s s' : State) (f : Kept → Kept) → KeepsId f → Offering known t s → s'.kept ≡ change stream f s.kept
@@ -72,29 +70,28 @@ module _ (known : Known) (t : List Entry) (event : Event) (stream : ℕ) (n : Ne
 pub hears_keep : (known : Known) (t : List Entry) (s : State) (event : Event) (stream : ℕ) (news : Delivery) → Neighbours known t → Offering known t s → MayHear known t event stream news → Offering known (Happened event ∷ t) (after s (Hears event stream news))
 hears_keep known t s event stream news n h may =
     let none : cause_of known stream t (Happened event) ≡ None = none_unless_fails known stream t event may.sound in
-    event_keeps known t event stream n may.of s (after s (Hears event stream news)) (told news) (λ k. refl) h refl (λ k kept. record {
+    event_keeps known t event stream may.of s (after s (Hears event stream news)) (told news) (λ k. refl) h refl (λ k kept. record {
       named = kept.named;
-      stands = λ c. stands_told known t (Happened event ∷ t) stream may.of.o news k.box refl (cause_stays known stream t (Happened event) none) (out_stays known stream t (Happened event) none)
+      stands = λ c. stands_told known t (Happened event ∷ t) stream (exchange_on (upstream_of event) t) news k.box refl (cause_stays known stream t (Happened event) none) (out_stays known stream t (Happened event) none)
           (ap is_to_head (items_stay known stream t (Happened event) refl)) n.apart may.of.given (record { is_opened = may.of.given.is_opened; is_given = may.of.given.is_given }) (inl may.of.no_cause) may.tells (kept.stands c);
       uncut = λ free. kept.uncut may.of.no_cause;
     })
 
 -- a failure is the cause for the stream of its connection
-pub caused_by_failure : (known : Known) (t : List Entry) (event : Event) {stream : ℕ} (of : IsOf known t event stream) → AreNumbered (exchanges t) → fails_behind known t ≡ true → cause_of known stream t (Happened event) ≡ Some BadAnswer
-caused_by_failure known t event {stream} of numbered fails =
-    let about_is : about t (Happened event) ≡ stream = ap (λ j. given j (exchanges t)) (sym of.number) ∙ given_is (exchanges t) of.o numbered of.given.is_opened ∙ of.given.is_given in
-    ap (λ b. if b && nat_lt 0 stream then cause_if (fails_behind known t) BadAnswer else None) (eq-eqb (about t (Happened event)) stream about_is)
+pub caused_by_failure : (known : Known) (t : List Entry) (event : Event) {stream : ℕ} (of : IsOf known t event stream) → fails_behind known t ≡ true → cause_of known stream t (Happened event) ≡ Some BadAnswer
+caused_by_failure known t event {stream} of fails =
+    ap (λ b. if b && nat_lt 0 stream then cause_if (fails_behind known t) BadAnswer else None) (eq-eqb (about t (Happened event)) stream of.given.is_given)
     ∙ ap (λ b. if b then cause_if (fails_behind known t) BadAnswer else None) (lt-ltb 0 stream of.counted) ∙ ap (λ b. cause_if b BadAnswer) fails
 
 -- its answer fails
-pub fails_keep : (known : Known) (t : List Entry) (s : State) (event : Event) (stream : ℕ) → Neighbours known t → Offering known t s → MayGiveUp known t event stream → Offering known (Happened event ∷ t) (after s (Fails event stream))
-fails_keep known t s event stream n h may =
+pub fails_keep : (known : Known) (t : List Entry) (s : State) (event : Event) (stream : ℕ) → Offering known t s → MayGiveUp known t event stream → Offering known (Happened event ∷ t) (after s (Fails event stream))
+fails_keep known t s event stream h may =
     let of = may.of in
-    let new = caused_by_failure known t event of n.numbered may.fails in
+    let new = caused_by_failure known t event of may.fails in
     let now = caused_now known stream t (Happened event) BadAnswer of.no_cause new in
     let out = out_now known stream t (Happened event) BadAnswer of.no_cause now in
     let heads = heads_now known stream t (Happened event) BadAnswer of.no_cause now in
-    event_keeps known t event stream n of s (after s (Fails event stream)) (answered BadAnswer) (answered_id BadAnswer) h refl
+    event_keeps known t event stream of s (after s (Fails event stream)) (answered BadAnswer) (answered_id BadAnswer) h refl
     (λ k kept. held_answered known t (Happened event ∷ t) stream BadAnswer k k.box refl now out heads kept.named kept.stands)
 
 -- ---- a part goes
@@ -134,35 +131,47 @@ goes_keep known t s noted item part over h may brings = record {
 
 -- ---- an act
 
--- a connection is opened
-opens_keep : (known : Known) (t : List Entry) (s : State) (k route : ℕ) → Offering known t s → MayOpen known t k → Offering known (Did (Open k route) ∷ t) (after s (Acts (Open k route)))
-opens_keep known t s k route h may = record {
-  lives = h.lives;
-  kept = λ stream a. elim (eqb_tells (last_stream t) stream) [
-    | inl x ↦ subst (λ n. IsKeptIf known u n (find n s.kept)) x.1 (kept_still known t u (last_stream t) (find (last_stream t) s.kept) here (subst (λ n. IsKeptIf known t n (find n s.kept)) (sym x.1) (h.kept stream a)))
-    | inr x ↦ kept_same known t (Did (Open k route)) stream (find stream s.kept) (act_quiet known t (Open k route) stream x.1 tt) refl (h.kept stream a)
-  ];
-  keeps = h.keeps;
-  delivered = λ stream. delivered_same known (Did (Open k route)) t stream refl (h.delivered stream);
-}
-  where
-    u : List Entry
-    u = Did (Open k route) ∷ t
+-- an exchange begins, for the stream of the last frame
+module _ (known : Known) (t : List Entry) (s : State) (act : Act) (k route : ℕ) (now : exchanges (Did act ∷ t) ≡ record { k = k; route = route; stream = last_stream t } ∷ exchanges t) (h : Offering known t s) (may : MayBegin known t) where
+  abbrev u : List Entry
+  u = Did act ∷ t
 
-    here : (r : Kept) → IsHeld known t (last_stream t) r → IsHeld known u (last_stream t) r
-    here r old = record {
-      named = old.named;
-      stands = λ c. stands_given known t u (last_stream t) (record { k = k; route = route; stream = last_stream t }) r.box refl (sym (cause_stays known (last_stream t) t (Did (Open k route)) (none_by_did known (last_stream t) t (Open k route))) ∙ may.no_cause)
-          (record { is_opened = inl refl; is_given = refl }) (may.unheard (record { k = k; route = route; stream = last_stream t }) refl) (may.not_ended (record { k = k; route = route; stream = last_stream t }) refl) may.none_before may.no_cause (old.stands c);
-      uncut = λ free. old.uncut may.no_cause;
-    }
+  abbrev new : Opened
+  new = record { k = k; route = route; stream = last_stream t }
 
--- octets that begin no other exchange
-pub sent_exchanges : (k : ℕ) (octets : List ℕ) (t : List Entry) → begins_another (given k (exchanges t)) (last_stream t) octets ≡ false → exchanges (Did (ToUp k octets) ∷ t) ≡ exchanges t
-sent_exchanges k octets t none = ap (λ b. if b then record { k = k; route = route_of k (exchanges t); stream = last_stream t } ∷ exchanges t else exchanges t) none
+  not_heard : (heard_by new t ≡ []) × (ended_by new t ≡ false)
+  not_heard = unheard new t may.none_given (λ none. let some = may.counted in omega (arith, some, none))
+
+  here : (r : Kept) → IsHeld known t (last_stream t) r → IsHeld known u (last_stream t) r
+  here r old = record {
+    named = old.named;
+    stands = λ c. stands_given known t u (last_stream t) new r.box refl (sym (cause_stays known (last_stream t) t (Did act) (none_by_did known (last_stream t) t act)) ∙ may.no_cause)
+        (record { is_opened = subst (IsIn new) (sym now) (inl refl); is_given = refl }) not_heard.0 not_heard.1
+        (λ o g. given_none (exchanges t) (last_stream t) o may.none_given g.is_opened (sym g.is_given)) may.no_cause (old.stands c);
+    uncut = λ free. old.uncut may.no_cause;
+  }
+
+  begins_keep : Offering known u (after s (Acts act))
+  begins_keep = record {
+    lives = h.lives;
+    kept = λ stream a. elim (eqb_tells (last_stream t) stream) [
+      | inl x ↦ subst (λ n. IsKeptIf known u n (find n s.kept)) x.1 (kept_still known t u (last_stream t) (find (last_stream t) s.kept) here (subst (λ n. IsKeptIf known t n (find n s.kept)) (sym x.1) (h.kept stream a)))
+      | inr x ↦ kept_same known t (Did act) stream (find stream s.kept) (begins_quiet known t act stream new now x.1) refl (h.kept stream a)
+    ];
+    keeps = h.keeps;
+    delivered = λ stream. delivered_same known (Did act) t stream refl (h.delivered stream);
+  }
+
+-- octets begin another exchange, or none
+pub exchanges_sent : (k : ℕ) (octets : List ℕ) (t : List Entry) (another : Bool) → begins_another (given k (exchanges t)) (last_stream t) octets ≡ another → exchanges (Did (ToUp k octets) ∷ t) ≡ (if another then another_on k t ∷ exchanges t else exchanges t)
+exchanges_sent k octets t another is = ap (λ b. if b then another_on k t ∷ exchanges t else exchanges t) is
 
 pub acts_keep : (known : Known) (t : List Entry) (s : State) (act : Act) → Offering known t s → MayDo known t act → Offering known (Did act ∷ t) (after s (Acts act))
-acts_keep known t s (Open k route) h may = opens_keep known t s k route h may
-acts_keep known t s (ToUp k octets) h may = offering_quiet known t (Did (ToUp k octets)) s s h (λ stream. refl) (λ stream. act_quiet known t (ToUp k octets) stream (λ x. x) (sent_exchanges k octets t may)) (λ stream. refl) refl h.keeps
-acts_keep known t s (Close k) h may = offering_quiet known t (Did (Close k)) s s h (λ stream. refl) (λ stream. act_quiet known t (Close k) stream (λ x. x) tt) (λ stream. refl) refl h.keeps
-acts_keep known t s CloseClient h may = offering_quiet known t (Did CloseClient) s s h (λ stream. refl) (λ stream. act_quiet known t CloseClient stream (λ x. x) tt) (λ stream. refl) refl h.keeps
+acts_keep known t s (Open k route) h may = begins_keep known t s (Open k route) k route refl h may
+acts_keep known t s (ToUp k octets) h may = by (begins_another (given k (exchanges t)) (last_stream t) octets) refl
+  where
+    by : (another : Bool) → begins_another (given k (exchanges t)) (last_stream t) octets ≡ another → Offering known (Did (ToUp k octets) ∷ t) (after s (Acts (ToUp k octets)))
+    by true is = begins_keep known t s (ToUp k octets) k (route_of k (exchanges t)) (exchanges_sent k octets t true is) h (may is)
+    by false is = offering_quiet known t (Did (ToUp k octets)) s s h (λ stream. refl) (λ stream. act_quiet known t (ToUp k octets) stream (exchanges_sent k octets t false is)) (λ stream. refl) refl h.keeps
+acts_keep known t s (Close k) h may = offering_quiet known t (Did (Close k)) s s h (λ stream. refl) (λ stream. act_quiet known t (Close k) stream refl) (λ stream. refl) refl h.keeps
+acts_keep known t s CloseClient h may = offering_quiet known t (Did CloseClient) s s h (λ stream. refl) (λ stream. act_quiet known t CloseClient stream refl) (λ stream. refl) refl h.keeps

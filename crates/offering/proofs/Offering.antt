@@ -1,5 +1,5 @@
 -- The invariant of all streams and their outboxes, and that each move that is allowed keeps it.
-use Rattle.std.proofs.Common.{◌≡◌, ℕ, Bool, true, false, not, ◌==◌, ◌&&◌, List, [], ◌∷◌, refl, sym, ap, ◌∙◌, subst, inl, inr, if◌then◌else◌}
+use Rattle.std.proofs.Common.{◌≡◌, ℕ, Bool, true, false, not, ◌==◌, ◌&&◌, List, [], ◌∷◌, refl, sym, ap, ◌∙◌, subst, inl, inr, arith, if◌then◌else◌}
 use Rattle.std.specs.Prelude.{Option, Some, None, is_some, option_map}
 use Rattle.std.specs.List.{list_any}
 use Rattle.std.proofs.lemmas.Bool.{eq-eqb, not-true, and_parts}
@@ -9,7 +9,6 @@ use Rattle.model.specs.Logs.{Event}
 use Rattle.model.specs.Tapes.{Noted, Breach, Entry, sent}
 use Rattle.model.specs.Tapes.Entry.{Breached, Happened, Sent}
 use Rattle.model.specs.Decoding.{completed}
-use Rattle.model.specs.Openings.{exchanges}
 use Rattle.model.specs.Available.{items_on}
 use Rattle.model.specs.Known.{Known}
 use Rattle.model.specs.Causes.{Cause}
@@ -25,8 +24,7 @@ use Rattle.offering.specs.State.Move.{Breaks, Notes, Sends}
 use Rattle.offering.specs.Policy.{Neighbours, BringsNone}
 use Rattle.offering.proofs.Standing.{SameOffer, Stands, stands_same, stands_replied, delivered_same}
 use Rattle.model.proofs.HeadLaws.{out_by_read}
-use Rattle.offering.proofs.Entries.{sent_quiet, breach_quiet, event_quiet, none_of_nobody}
-use Rattle.model.proofs.GivenLaws.{number_above}
+use Rattle.offering.proofs.Entries.{sent_quiet, breach_quiet, shown_beside, event_quiet, none_of_nobody}
 use Rattle.offering.proofs.Keeping.{find_without, find_beside, some_unless}
 use Rattle.model.proofs.ActiveLaws.{active_sent, active_beside, active_control, brought_none, none_brought}
 
@@ -132,7 +130,7 @@ pub notes_keep : (known : Known) (t : List Entry) (s : State) (event : Event) �
 notes_keep known t s event n h may =
     offering_quiet known t (Happened event) s (after s (Notes event)) h
     (λ stream. refl)
-    (λ stream. event_quiet known t event stream (none_of_nobody known stream t event n.numbered may) (λ o g k. number_above (exchanges t) o n.numbered g.is_opened (k ∙ may)))
+    (λ stream. event_quiet known t event stream (none_of_nobody known stream t event n.counted may) (λ o g. shown_beside known t event o stream (λ k s. let above = n.counted o g.is_opened in let none : o.k ≡ 0 = k ∙ may in omega (arith, above, none))))
     (λ stream. refl) refl h.keeps
 
 pub breaks_keep : (known : Known) (t : List Entry) (s : State) (breach : Breach) → Offering known t s → Offering known (Breached breach ∷ t) (after s (Breaks breach))

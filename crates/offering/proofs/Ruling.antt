@@ -1,5 +1,5 @@
 -- The rule by states alone leads to the one by the tape, where what is read is right and what is told is news.
-use Rattle.std.proofs.Common.{◌≡◌, ℕ, zero, suc, ◌<◌, Bool, true, false, not, ◌==◌, ◌&&◌, ◌||◌, List, [], ◌∷◌, ◌++◌, length, refl, sym, ap, ◌∙◌, subst, arith, if◌then◌else◌}
+use Rattle.std.proofs.Common.{◌≡◌, ℕ, zero, suc, ◌<◌, Bool, true, false, not, ◌==◌, ◌&&◌, ◌||◌, List, [], ◌∷◌, ◌++◌, refl, sym, ap, ◌∙◌, arith, if◌then◌else◌}
 use Rattle.std.specs.Prelude.{Option, Some, None, is_some}
 use Rattle.std.specs.List.{list_any}
 use Rattle.std.proofs.lemmas.Bool.{and_parts, and_from}
@@ -9,15 +9,16 @@ use Rattle.model.specs.Tapes.{Noted, Entry, came, sent}
 use Rattle.model.specs.Tapes.Entry.{Came, Happened}
 use Rattle.model.specs.Decoding.{completed}
 use Rattle.model.specs.Streams.{items_of}
-use Rattle.model.specs.Openings.{Opened, exchanges}
-use Rattle.model.specs.Available.{heard_by, ended_by, items_on, IsIn}
+use Rattle.model.specs.Openings.{Opened, exchanges, given}
+use Rattle.model.specs.Available.{items_on}
 use Rattle.model.specs.Known.{Known, fails_behind}
 use Rattle.model.specs.Causes.{Cause}
 use Rattle.model.specs.Causes.Cause.{BadAnswer}
 use Rattle.model.specs.ErrorTable.{fault_with}
 use Rattle.model.specs.Lifetimes.{opened, opens_by, is_opened, is_over, is_active, is_ended_by_client, is_ended_by_gateway, is_reset_by_client, is_reset_by_gateway}
-use Rattle.model.specs.Courses.{course, carried, items, cause_of, interrupts, first_of_both}
+use Rattle.model.specs.Courses.{course, carried, items, about, upstream_of, cause_of, interrupts, first_of_both}
 use Rattle.model.specs.Offers.{IsGiven}
+use Rattle.model.proofs.ExchangeLaws.{given_in}
 use Rattle.model.proofs.OpenedLaws.{opens_own, opens_new, none_zero}
 use Rattle.offering.specs.State.{State, find}
 use Rattle.offering.specs.Policy.{Neighbours, IsOf, IsNew, IsCaused, LeavesCause, IsOpened, MayTake}
@@ -34,8 +35,6 @@ pub record Placed (known : Known) (t : List Entry) (s : State) : Type 0 where
   -- a stream that wasn't opened was sent nothing, and no connection was given to it
   pub unsent : (id : ℕ) → is_opened id t ≡ false → items_on id (sent t) ≡ []
   pub not_given : (id : ℕ) → is_opened id t ≡ false → (o : Opened) → IsGiven t id o → ⊥
-  -- nothing came of a connection that wasn't opened
-  pub unheard : (k : ℕ) → length (exchanges t) < k → (o : Opened) → o.k ≡ k → (heard_by o t ≡ []) × (ended_by o t ≡ false)
 
 -- ---- items stay
 
@@ -60,7 +59,7 @@ pub not_unopened : (id other : ℕ) (t : List Entry) → is_active id t ≡ true
 not_unopened id other t on out same = let clash : true ≡ false = sym (opened_active id t on) ∙ ap (λ n. is_opened n t) same ∙ out in cc
 
 -- the id of an active stream is above 0
-above_zero : (id : ℕ) (t : List Entry) → is_active id t ≡ true → 0 < id
+pub above_zero : (id : ℕ) (t : List Entry) → is_active id t ≡ true → 0 < id
 above_zero id t on = by id refl
   where
     by : (n : ℕ) → id ≡ n → 0 < id
@@ -194,12 +193,16 @@ module _ (known : Known) (t : List Entry) (s : State) (p : Placed known t s) (ev
   -- the event is of the stream's connection
   pub of_stream : IsOf known t event stream
   of_stream = record {
-    o = of.o;
-    given = record { is_opened = subst (IsIn of.o) right.given of.there; is_given = of.is_given };
-    number = of.number;
+    given = record { is_opened = given_in (upstream_of event) (exchanges t) some; is_given = about_is };
     no_cause = sym (right.cause stream active) ∙ of.no_cause;
     counted = above_zero stream t active;
   }
+    where
+      about_is : about t (Happened event) ≡ stream
+      about_is = sym (ap (λ os. given (upstream_of event) os) right.given) ∙ of.is_given
+
+      some : about t (Happened event) ≡ 0 → ⊥
+      some none = let above = above_zero stream t active in let zero_is : stream ≡ 0 = sym about_is ∙ none in omega (arith, above, zero_is)
 
   -- where no cause is read behind it, no answer failed
   pub sound : behind.cause stream ≡ None → fails_behind known t ≡ false
@@ -208,7 +211,7 @@ module _ (known : Known) (t : List Entry) (s : State) (p : Placed known t s) (ev
       by : (b : Bool) → fails_behind known t ≡ b → b ≡ false
       by false e = refl
       by true fails =
-          let new = caused_by_failure known t event of_stream p.neighbours.numbered fails in
+          let new = caused_by_failure known t event of_stream fails in
           let clash : ◌≡◌ {A = Option Cause} None (Some BadAnswer) = sym none ∙ now.cause stream active ∙ caused_now known stream t (Happened event) BadAnswer of_stream.no_cause new in
           cc
 

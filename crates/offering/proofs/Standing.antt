@@ -43,8 +43,7 @@ pub record SameOffer (known : Known) (t u : List Entry) (stream : ℕ) : Type 0 
   pub there : (o : Opened) → IsGiven t stream o → IsGiven u stream o
   pub back : (o : Opened) → IsGiven u stream o → IsGiven t stream o
   pub head : (o : Opened) → IsGiven t stream o → is_to_head (items known stream t) ≡ is_to_head (items known stream u)
-  pub heard : (o : Opened) → IsGiven t stream o → heard_by o t ≡ heard_by o u
-  pub ended : (o : Opened) → IsGiven t stream o → ended_by o t ≡ ended_by o u
+  pub still : (o : Opened) → IsGiven t stream o → (d : Delivery) → IsShown known.setup.passing (heard_by o t) (ended_by o t) (is_to_head (items known stream t)) d → IsShown known.setup.passing (heard_by o u) (ended_by o u) (is_to_head (items known stream t)) d
 
 no_reply_same : (c d : Course) → c.cause ≡ d.cause → c.head_out ≡ d.head_out → HasNoReply c → HasNoReply d
 no_reply_same c d e f (inl none) = inl (sym e ∙ none)
@@ -56,9 +55,7 @@ module _ (known : Known) (t u : List Entry) (stream : ℕ) (s : SameOffer known 
     no_reply = no_reply_same (course known stream t) (course known stream u) s.cause s.out p.no_reply;
     o = p.o;
     given = s.there p.o p.given;
-    shows = subst (λ x. IsShown known.setup.passing x (ended_by p.o u) (is_to_head (items known stream u)) d) (s.heard p.o p.given)
-        (subst (λ x. IsShown known.setup.passing (heard_by p.o t) x (is_to_head (items known stream u)) d) (s.ended p.o p.given)
-        (subst (λ x. IsShown known.setup.passing (heard_by p.o t) (ended_by p.o t) x d) (s.head p.o p.given) p.shows));
+    shows = subst (λ x. IsShown known.setup.passing (heard_by p.o u) (ended_by p.o u) x d) (s.head p.o p.given) (s.still p.o p.given d p.shows);
   }
 
   replied_same : (d : Delivery) → IsReplied known t stream d → IsReplied known u stream d

@@ -8,7 +8,7 @@ use Rattle.model.specs.Tapes.{Noted, Entry, sent}
 use Rattle.model.specs.Tapes.Entry.{Came, Happened, Sent}
 use Rattle.model.specs.Decoding.{completed}
 use Rattle.model.specs.Streams.{frame_items}
-use Rattle.model.specs.Openings.{Opened, exchanges, given, begins_another, last_stream, AreNumbered, AreApart}
+use Rattle.model.specs.Openings.{Opened, exchanges, exchange_on, given, begins_another, last_stream, IsGivenNone, AreApart}
 use Rattle.model.specs.Available.{heard_by, ended_by, items_on, IsIn}
 use Rattle.model.specs.Known.{Known, fails_behind}
 use Rattle.model.specs.Causes.{Cause}
@@ -20,16 +20,16 @@ use Rattle.model.specs.ProgressClause.{NoneReady}
 use Rattle.model.specs.WindowClause.{KeepsWindows}
 use Rattle.model.specs.Turns.{IsNextTurn}
 use Rattle.model.specs.Offers.{is_to_head, IsGiven, IsDelivered}
+use Rattle.model.specs.Idle.{IsIdle}
 use Rattle.model.specs.Deliveries.{Delivery}
 use Rattle.offering.specs.Outbox.{Part, IsNext, IsItemOf}
 use Rattle.offering.specs.Shown.{Tells}
 use Rattle.offering.specs.State.{Kept, State, Windows, Change, Move, find, ready, entry_of, state_of}
-use Rattle.offering.specs.State.Move.{Takes, Breaks, Notes, Hears, Fails, Goes, Sends, Acts}
+use Rattle.offering.specs.State.Move.{Takes, Breaks, Notes, Hears, Fails, Idles, Goes, Sends, Acts}
 
--- What other concerns know of every tape: connections are numbered, no stream has two, and something came on its stream.
+-- What other concerns know of every tape: no connection has the number 0, no stream has two exchanges, and something came on the stream of each.
 pub record Neighbours (known : Known) (t : List Entry) : Type 0 where
-  pub off : known.setup.keep ≡ false
-  pub numbered : AreNumbered (exchanges t)
+  pub counted : (o : Opened) → IsIn o (exchanges t) → 0 < o.k
   pub apart : AreApart (exchanges t)
   pub begun : (o : Opened) → IsIn o (exchanges t) → items known o.stream t ≡ [] → ⊥
 
@@ -62,11 +62,9 @@ pub record BringsNone (t : List Entry) (noted : Noted) : Type 0 where
 
 -- ---- events
 
--- The event is of the stream's connection, which is open, so that the gateway doesn't answer the stream itself.
+-- The event is of a connection that was given to this stream last, and the gateway doesn't answer the stream itself.
 pub record IsOf (known : Known) (t : List Entry) (event : Event) (stream : ℕ) : Type 0 where
-  pub o : Opened
-  pub given : IsGiven t stream o
-  pub number : o.k ≡ upstream_of event
+  pub given : IsGiven t stream (exchange_on (upstream_of event) t)
   pub no_cause : (course known stream t).cause ≡ None
   pub counted : 0 < stream
 
@@ -74,26 +72,30 @@ pub record IsOf (known : Known) (t : List Entry) (event : Event) (stream : ℕ) 
 pub record MayHear (known : Known) (t : List Entry) (event : Event) (stream : ℕ) (news : Delivery) : Type 0 where
   pub of : IsOf known t event stream
   pub sound : fails_behind known t ≡ false
-  pub tells : Tells known.setup.passing (heard_by of.o t) (ended_by of.o t) (heard_by of.o (Happened event ∷ t)) (ended_by of.o (Happened event ∷ t)) (is_to_head (items known stream t)) news
+  pub tells : let o = exchange_on (upstream_of event) t in Tells known.setup.passing (heard_by o t) (ended_by o t) (heard_by o (Happened event ∷ t)) (ended_by o (Happened event ∷ t)) (is_to_head (items known stream t)) news
 
 -- The answer of the stream's upstream fails with the event.
 pub record MayGiveUp (known : Known) (t : List Entry) (event : Event) (stream : ℕ) : Type 0 where
   pub of : IsOf known t event stream
   pub fails : fails_behind known t ≡ true
 
+-- The event is of an idle connection, and no answer fails with it.
+pub record MayIdle (known : Known) (t : List Entry) (event : Event) : Type 0 where
+  pub idle : IsIdle known t (upstream_of event)
+  pub sound : fails_behind known t ≡ false
+
 -- ---- acts and frames of the client
 
--- A connection is opened for the stream of the last frame of the client: its first, with a new number.
-pub record MayOpen (known : Known) (t : List Entry) (k : ℕ) : Type 0 where
-  pub none_before : (o : Opened) → IsGiven t (last_stream t) o → ⊥
+-- An exchange begins for the stream of the last frame of the client: its first, and the gateway doesn't answer it.
+pub record MayBegin (known : Known) (t : List Entry) : Type 0 where
+  pub counted : 0 < last_stream t
+  pub none_given : IsGivenNone (last_stream t) (exchanges t)
   pub no_cause : (course known (last_stream t) t).cause ≡ None
-  pub unheard : (o : Opened) → o.k ≡ k → heard_by o t ≡ []
-  pub not_ended : (o : Opened) → o.k ≡ k → ended_by o t ≡ false
 
--- The act may be done: opening a connection asks something of the tape, the others nothing of it.
+-- The act may be done: one that begins an exchange asks something of the tape, the others nothing of it.
 abbrev pub MayDo : Known → List Entry → Act → Type 0
-MayDo known t (Open k route) = MayOpen known t k
-MayDo known t (ToUp k octets) = begins_another (given k (exchanges t)) (last_stream t) octets ≡ false
+MayDo known t (Open k route) = MayBegin known t
+MayDo known t (ToUp k octets) = begins_another (given k (exchanges t)) (last_stream t) octets ≡ true → MayBegin known t
 MayDo known t _ = Unit {0}
 
 -- A stream is new: nothing was sent on it, nothing given to it, and it isn't answered.
@@ -138,6 +140,7 @@ Holds known t s (Breaks breach) = Unit {0}
 Holds known t s (Notes event) = upstream_of event ≡ 0
 Holds known t s (Hears event stream news) = MayHear known t event stream news
 Holds known t s (Fails event stream) = MayGiveUp known t event stream
+Holds known t s (Idles event) = MayIdle known t event
 Holds known t s (Goes noted item part over) = MayGo (windows_on t) s noted item part × Brings t noted item over
 Holds known t s (Sends noted) = BringsNone t noted
 Holds known t s (Acts act) = MayDo known t act

@@ -1,6 +1,6 @@
 -- Which move may come next by states alone: what is kept here, and what is read of the rest before the move and behind it. It
 -- names no tape.
-use Rattle.std.specs.Prelude.{◌≡◌, ℕ, suc, Bool, true, false, not, ◌&&◌, ◌==◌, if◌then◌else◌, List, [], ◌∷◌, length, map, Option, Some, None}
+use Rattle.std.specs.Prelude.{◌≡◌, ℕ, ◌<◌, Bool, true, false, not, ◌&&◌, ◌==◌, if◌then◌else◌, List, [], ◌∷◌, map, Option, Some, None}
 use Rattle.model.specs.Messages.{Item}
 use Rattle.model.specs.Frames.{Frame, data_kind, ends_headers}
 use Rattle.model.specs.Logs.{Event, Act}
@@ -10,7 +10,7 @@ use Rattle.model.specs.Tapes.Entry.{Happened}
 use Rattle.model.specs.Decoding.{Partial, joined}
 use Rattle.model.specs.Streams.{frame_items}
 use Rattle.model.specs.Openings.{Opened, given, begins_another, IsGivenNone}
-use Rattle.model.specs.Available.{heard_by, ended_by, IsIn}
+use Rattle.model.specs.Available.{heard_by, ended_by}
 use Rattle.model.specs.Known.{Known}
 use Rattle.model.specs.Causes.{Cause}
 use Rattle.model.specs.Causes.Cause.{BadAnswer}
@@ -18,8 +18,8 @@ use Rattle.model.specs.Courses.{items, upstream_of}
 use Rattle.model.specs.Offers.{is_to_head, IsGiven}
 use Rattle.offering.specs.Shown.{Tells}
 use Rattle.offering.specs.State.{State, Change, Move, entry_of, state_of}
-use Rattle.offering.specs.State.Move.{Takes, Breaks, Notes, Hears, Fails, Goes, Sends, Acts}
-use Rattle.offering.specs.Policy.{MayGo, IsFlushed}
+use Rattle.offering.specs.State.Move.{Takes, Breaks, Notes, Hears, Fails, Idles, Goes, Sends, Acts}
+use Rattle.offering.specs.Policy.{MayGo, MayIdle, IsFlushed}
 use Rattle.offering.specs.Sight.{Sight, first_sight, IsRightOf, windows_in}
 
 -- ---- what a frame of the client changes
@@ -39,23 +39,20 @@ change_by before behind id = record {
 
 -- ---- which move may come
 
--- The event is of the stream's connection; the stream is active, and the gateway doesn't answer it itself.
+-- The event is of a connection that was given to this stream last; the stream is active, and the gateway doesn't answer it itself.
 pub record IsEventOf (before : Sight) (event : Event) (stream : ℕ) : Type 0 where
-  pub o : Opened
-  pub there : IsIn o before.given
-  pub is_given : o.stream ≡ stream
-  pub number : o.k ≡ upstream_of event
+  pub is_given : given (upstream_of event) before.given ≡ stream
   pub active : before.active stream ≡ true
   pub no_cause : before.cause stream ≡ None
 
--- A connection is opened for the stream of the client's last frame, which is active, has an item and no cause, and was given
--- none; connections are numbered in their order.
-pub record OpensNext (before : Sight) (k : ℕ) : Type 0 where
+-- An exchange begins for the stream of the client's last frame, which is active, has an item and no cause, and was given none; the
+-- connection's number isn't 0.
+pub record BeginsNext (before : Sight) (k : ℕ) : Type 0 where
   pub active : before.active before.last ≡ true
   pub has_items : before.has_items before.last ≡ true
   pub no_cause : before.cause before.last ≡ None
   pub first : IsGivenNone before.last before.given
-  pub next : k ≡ suc (length before.given)
+  pub counted : 0 < k
 
 -- the header block that a frame completes
 abbrev pub completed_by : Option Partial → Frame → Option Partial
@@ -71,10 +68,10 @@ pub record BringsNothing (before : Sight) (noted : Noted) : Type 0 where
   pub no_block : completed_by before.block noted.frame ≡ None
   pub no_data : (noted.frame.kind == data_kind) ≡ false
 
--- what an act asks
+-- what an act asks: a connection is opened for an exchange, and octets may begin another
 abbrev pub MayAct : Sight → Act → Type 0
-MayAct before (Open k route) = OpensNext before k
-MayAct before (ToUp k octets) = begins_another (given k before.given) before.last octets ≡ false
+MayAct before (Open k route) = BeginsNext before k
+MayAct before (ToUp k octets) = begins_another (given k before.given) before.last octets ≡ true → BeginsNext before k
 MayAct before _ = Unit {0}
 
 -- The effect of what came before is over: the flush is done.
@@ -88,6 +85,7 @@ MayCome before behind s (Breaks breach) = IsDone before s
 MayCome before behind s (Notes event) = IsDone before s × (upstream_of event ≡ 0)
 MayCome before behind s (Hears event stream news) = IsDone before s × IsEventOf before event stream × (behind.cause stream ≡ None)
 MayCome before behind s (Fails event stream) = IsDone before s × IsEventOf before event stream × (behind.cause stream ≡ Some BadAnswer)
+MayCome before behind s (Idles event) = IsDone before s
 MayCome before behind s (Goes noted item part over) = MayGo (windows_in before) s noted item part × BringsOne before behind noted item over
 MayCome before behind s (Sends noted) = BringsNothing before noted
 MayCome before behind s (Acts act) = MayAct before act
@@ -117,15 +115,16 @@ abbrev pub AllMayCome : List Seen → Type 0
 AllMayCome [] = Unit {0}
 AllMayCome (x ∷ run) = AllMayCome run × MayCome (sight_of run) x.sight (state_of (moves_of run)) x.move
 
--- What was read is right behind each move. By this rule no connection is kept for another request.
+-- What was read is right behind each move.
 abbrev pub AreRight : Known → List Seen → Type 0
-AreRight known [] = known.setup.keep ≡ false
+AreRight known [] = Unit {0}
 AreRight known (x ∷ run) = AreRight known run × IsRightOf known (tape_of (x ∷ run)) x.sight
 
--- What is told of an event is news of what the stream's upstream answered.
+-- What is told of an event is news of what the stream's upstream answered; or its connection is idle, and no answer fails.
 abbrev pub IsTold : Known → List Entry → Move → Type 0
 IsTold known t (Hears event stream news) =
     (o : Opened) → IsGiven t stream o → Tells known.setup.passing (heard_by o t) (ended_by o t) (heard_by o (Happened event ∷ t)) (ended_by o (Happened event ∷ t)) (is_to_head (items known stream t)) news
+IsTold known t (Idles event) = MayIdle known t event
 IsTold known t _ = Unit {0}
 
 -- It is so of each event.

@@ -23,15 +23,16 @@ use Rattle.conduct.specs.Rule.{MayComeIn}
 use Rattle.offering.specs.Sight.{sight_in}
 use Rattle.receiving.specs.Policy.{may_come}
 use Rattle.receiving.specs.Rule.{OwesNothing}
+use Rattle.serving.specs.Lines.{Heard}
 use Rattle.serving.specs.Rule as requests
 use Rattle.serving.specs.Rule.{IsKept}
-use Rattle.policy.specs.Moves.{Gain, told_in, gained, failed}
+use Rattle.policy.specs.Moves.{Gain, told_in, gained, failed, idled}
 use Rattle.policy.specs.Moves.Gain.{Nothing, Begins, Gathers, Passes, Drops}
-use Rattle.policy.specs.Moves.Deed.{Takes, Breaks, Notes, Hears, Fails}
+use Rattle.policy.specs.Moves.Deed.{Takes, Breaks, Notes, Hears, Fails, Idles}
 use Rattle.policy.specs.State.{State, gates_in}
 use Rattle.policy.specs.Rule.{rooms_in, Gains, MayDo}
 use Rattle.policy.specs.Steps.{told_by, told_behind}
-use Rattle.policy.specs.Coming.{IsReady, IsGained, MayTake, MayBreakOff, MayHear, MayFail}
+use Rattle.policy.specs.Coming.{IsReady, IsGained, MayTake, MayBreakOff, MayHear, MayFail, MayIdle}
 
 module _ (setup : Setup) (behind : Summary) (s : State) (ready : IsReady s) where
   comes : MayComeIn (as_point s.desk)
@@ -79,18 +80,18 @@ module _ (setup : Setup) (behind : Summary) (s : State) (ready : IsReady s) wher
   }
 
   -- what an answer of an upstream asks of requests, by whether it fails
-  failed_may : (event : Event) (whole : Bool) → MayBreakOff event → IsKept s.requests (upstream_of event) → requests.MayMove setup (told_in (told_by s)) (told_in behind) s.requests (failed event whole)
-  failed_may (UpFailed k) whole of kept = (requests_come, kept)
-  failed_may (Up k piece) whole of kept = (requests_come, of, kept)
-  failed_may (UpEnd k) whole of kept = (requests_come, of, kept)
-  failed_may (Client piece) whole of kept = absurd of
-  failed_may ClientEnd whole of kept = absurd of
-  failed_may (ClientTook count) whole of kept = absurd of
-  failed_may (UpTook k count) whole of kept = absurd of
+  failed_may : (event : Event) (heard : Heard) → MayBreakOff event → IsKept s.requests (upstream_of event) → requests.MayMove setup (told_in (told_by s)) (told_in behind) s.requests (failed event heard)
+  failed_may (UpFailed k) heard of kept = (requests_come, kept)
+  failed_may (Up k piece) heard of kept = (requests_come, of, kept)
+  failed_may (UpEnd k) heard of kept = (requests_come, of, kept)
+  failed_may (Client piece) heard of kept = absurd of
+  failed_may ClientEnd heard of kept = absurd of
+  failed_may (ClientTook count) heard of kept = absurd of
+  failed_may (UpTook k count) heard of kept = absurd of
 
   -- an answer that doesn't fail
-  pub may_hear : (event : Event) (stream : ℕ) (news : Delivery) (whole : Bool) → MayHear behind s event stream → MayDo setup (told_by s) behind s (Hears event stream news whole)
-  may_hear event stream news whole may = record {
+  pub may_hear : (event : Event) (stream : ℕ) (news : Delivery) (heard : Heard) → MayHear behind s event stream → MayDo setup (told_by s) behind s (Hears event stream news heard)
+  may_hear event stream news heard may = record {
     rests = λ e. ready.rests;
     conduct = record { allowed = record { open_yet = ready.open_yet; turn = comes }; fit = λ fails. absurd (let no : false ≡ true = fails in cc) };
     offer = (ready.rests.flushed, may.answer.of, may.calm);
@@ -103,17 +104,41 @@ module _ (setup : Setup) (behind : Summary) (s : State) (ready : IsReady s) wher
   }
 
   -- one that does
-  pub may_fail : (event : Event) (stream : ℕ) (whole : Bool) → MayFail behind s event stream → MayDo setup (told_by s) behind s (Fails event stream whole)
-  may_fail event stream whole may = record {
+  pub may_fail : (event : Event) (stream : ℕ) (heard : Heard) → MayFail behind s event stream → MayDo setup (told_by s) behind s (Fails event stream heard)
+  may_fail event stream heard may = record {
     rests = λ e. ready.rests;
     conduct = record { allowed = record { open_yet = ready.open_yet; turn = comes }; fit = λ fails. may.about };
     offer = (ready.rests.flushed, may.answer.of, may.caused);
     in_turn = tt;
-    request = record { open_yet = ready.open_yet; may = failed_may event whole may.of_upstream may.answer.kept };
+    request = record { open_yet = ready.open_yet; may = failed_may event heard may.of_upstream may.answer.kept };
     gains = tt;
     calls = λ so. absurd (let no : false ≡ true = so in cc);
     table = tt;
     window = (owes_none, record { settled = owes_none.settled; admitted = may.answer.admitted });
+  }
+
+  -- what comes of an idle connection
+  idled_may : (event : Event) → MayBreakOff event → IsKept s.requests (upstream_of event) → requests.MayMove setup (told_in (told_by s)) (told_in behind) s.requests (idled event)
+  idled_may (UpFailed k) of kept = (requests_come, kept)
+  idled_may (Up k []) of kept = (requests_come, of, kept)
+  idled_may (Up k (octet ∷ octets)) of kept = (requests_come, of, kept)
+  idled_may (UpEnd k) of kept = (requests_come, of, kept)
+  idled_may (Client piece) of kept = absurd of
+  idled_may ClientEnd of kept = absurd of
+  idled_may (ClientTook count) of kept = absurd of
+  idled_may (UpTook k count) of kept = absurd of
+
+  pub may_idle : (event : Event) → MayIdle s event → MayDo setup (told_by s) behind s (Idles event)
+  may_idle event may = record {
+    rests = λ e. ready.rests;
+    conduct = record { allowed = record { open_yet = ready.open_yet; turn = comes }; fit = λ fails. absurd (let no : false ≡ true = fails in cc) };
+    offer = ready.rests.flushed;
+    in_turn = tt;
+    request = record { open_yet = ready.open_yet; may = idled_may event may.of_upstream may.kept };
+    gains = tt;
+    calls = λ so. absurd (let no : false ≡ true = so in cc);
+    table = tt;
+    window = (owes_none, record { settled = owes_none.settled; admitted = may.admitted });
   }
 
   request_may : (noted : Noted) (gain : Gain) → IsGained setup behind s noted gain → requests.MayMove setup (told_in (told_by s)) (told_in behind) s.requests (gained noted gain)

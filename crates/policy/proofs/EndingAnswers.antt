@@ -5,7 +5,7 @@ use Rattle.model.specs.Tables.{Table}
 use Rattle.model.specs.Logs.Act.{Close}
 use Rattle.model.specs.Known.{Known}
 use Rattle.conduct.specs.Quiet.{noted_of}
-use Rattle.serving.specs.State.{Live}
+use Rattle.serving.specs.Lines.{Line}
 use Rattle.policy.specs.Moves.{Deed, Move}
 use Rattle.policy.specs.Moves.Deed.{Sends, Acts}
 use Rattle.policy.specs.Moves.Move.{Does}
@@ -13,7 +13,7 @@ use Rattle.policy.specs.State.{State, tape_of}
 use Rattle.policy.specs.Answered.{IsAnswered, AreAnswered}
 use Rattle.policy.specs.Ending.{farewell_by, sent_all, farewell_of, closes_of, by_number, ending_of}
 
-closes_say_none : (known : Known) (ls : List Live) (run : List Move) → AreAnswered known run → AreAnswered known (closes_of ls ++ run)
+closes_say_none : (known : Known) (ls : List Line) (run : List Move) → AreAnswered known run → AreAnswered known (closes_of ls ++ run)
 closes_say_none known [] run so = so
 closes_say_none known (l ∷ ls) run so =
     subst (AreAnswered known) (sym (append_assoc (closes_of ls) (Does (Acts (Close l.k)) ∷ []) run)) (closes_say_none known ls (Does (Acts (Close l.k)) ∷ run) (so, tt))

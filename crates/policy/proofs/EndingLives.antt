@@ -17,13 +17,16 @@ use Rattle.model.specs.Logs.Act.{Open, ToUp, Close, CloseClient}
 use Rattle.model.specs.Setup.{Setup}
 use Rattle.model.proofs.ActiveLaws.{active_beside, active_control, active_came}
 use Rattle.offering.specs.State.{Kept, State, Change, Move, find, change, unless_over, told, gone, answered, answered_if, with_new, entry_of, after, state_of}
-use Rattle.offering.specs.State.Move.{Takes, Breaks, Notes, Hears, Fails, Goes, Sends, Acts}
+use Rattle.offering.specs.State.Move.{Takes, Breaks, Notes, Hears, Fails, Idles, Goes, Sends, Acts}
 use Rattle.offering.specs.Sight.{Sight, IsRightOf}
 use Rattle.offering.specs.Rule.{Seen, MayCome, moves_of, tape_of, sight_of, AllMayCome, AreRight, change_by}
 use Rattle.offering.proofs.Keeping.{KeepsId, answered_id, answered_if_id, find_changed, find_other, find_new, find_old, find_beside, some_mapped, some_unless}
 use Rattle.offering.proofs.Allowing.{last_right}
+use Rattle.serving.specs.Lines.{Line, k_of, line_of, without, with_answer, answer_by, idle_beside, given_to}
+use Rattle.serving.specs.Lines.Answer.{Pending}
 use Rattle.serving.specs.State as serving
-use Rattle.serving.specs.State.{Live, k_of, live_of, Turn}
+use Rattle.serving.specs.State.{Due, Turn}
+use Rattle.serving.specs.State.Due.{Nothing, ToOpen, ToUse, ToSend}
 use Rattle.serving.specs.Rule.{MayAct, MayMove, told_of, AreAllowed}
 use Rattle.serving.specs.Told.{Told}
 
@@ -88,6 +91,7 @@ module _ (known : Known) (t : List Entry) (s : State) (h : AreActive t s.kept) (
   lives_behind (Notes event) now may = h
   lives_behind (Hears event stream news) now may = λ other. some_changed stream (told news) s.kept (λ k. refl) other ∙ h other
   lives_behind (Fails event stream) now may = λ other. some_changed stream (answered BadAnswer) s.kept (answered_id BadAnswer) other ∙ h other
+  lives_behind (Idles event) now may = h
   lives_behind (Goes noted item part over) now may =
       goes_if (Sent noted ∷ t) noted.frame.id (change noted.frame.id (gone part) s.kept) over
       (ap (λ b. b && not over) (some_changed noted.frame.id (gone part) s.kept (λ k. refl) noted.frame.id ∙ ap (λ o. is_some o) may.0.found) ∙ sym may.1.active ∙ now.active noted.frame.id)
@@ -108,125 +112,138 @@ all_active known (x ∷ run) may right =
 -- ---- connections
 
 -- each number stands once
-abbrev pub AreApart : List Live → Type 0
+abbrev pub AreApart : List Line → Type 0
 AreApart [] = Unit {0}
-AreApart (l ∷ ls) = (live_of l.k ls ≡ None) × AreApart ls
+AreApart (l ∷ ls) = (line_of l.k ls ≡ None) × AreApart ls
 
 -- they are no higher than this
-abbrev AreBelow : ℕ → List Live → Type 0
+abbrev AreBelow : ℕ → List Line → Type 0
 AreBelow n [] = Unit {0}
 AreBelow n (l ∷ ls) = (l.k ≤ n) × AreBelow n ls
 
-below_more : (n : ℕ) (ls : List Live) → AreBelow n ls → AreBelow (suc n) ls
+below_more : (n : ℕ) (ls : List Line) → AreBelow n ls → AreBelow (suc n) ls
 below_more n [] b = tt
 below_more n (l ∷ ls) b = (let under = b.0 in omega (arith, under), below_more n ls b.1)
 
-none_above : (n : ℕ) (ls : List Live) → AreBelow n ls → live_of (suc n) ls ≡ None
+none_above : (n : ℕ) (ls : List Line) → AreBelow n ls → line_of (suc n) ls ≡ None
 none_above n [] b = refl
-none_above n (l ∷ ls) b = ap (λ x. if x then Some l else live_of (suc n) ls) (ne_eqb l.k (suc n) (λ e. let under = b.0 in omega (arith, e, under))) ∙ none_above n ls b.1
+none_above n (l ∷ ls) b = ap (λ x. if x then Some l else line_of (suc n) ls) (ne_eqb l.k (suc n) (λ e. let under = b.0 in omega (arith, e, under))) ∙ none_above n ls b.1
 
 -- where a number isn't there, nothing goes with it
-pub without_none : (k : ℕ) (ls : List Live) → live_of k ls ≡ None → serving.without k_of k ls ≡ ls
+pub without_none : (k : ℕ) (ls : List Line) → line_of k ls ≡ None → without k_of k ls ≡ ls
 without_none k [] e = refl
 without_none k (l ∷ ls) e = by (l.k == k) e (without_none k ls)
   where
-    by : (b : Bool) → (if b then Some l else live_of k ls) ≡ None → (live_of k ls ≡ None → serving.without k_of k ls ≡ ls) → (if b then serving.without k_of k ls else l ∷ serving.without k_of k ls) ≡ l ∷ ls
-    by true none more = let clash : ◌≡◌ {A = Option Live} (Some l) None = none in cc
-    by false none more = ap (λ (xs : List Live). l ∷ xs) (more none)
+    by : (b : Bool) → (if b then Some l else line_of k ls) ≡ None → (line_of k ls ≡ None → without k_of k ls ≡ ls) → (if b then without k_of k ls else l ∷ without k_of k ls) ≡ l ∷ ls
+    by true none more = let clash : ◌≡◌ {A = Option Line} (Some l) None = none in cc
+    by false none more = ap (λ (xs : List Line). l ∷ xs) (more none)
 
 -- where a number is in neither part, it is in neither
-none_in_parts : (k : ℕ) (xs ys : List Live) → live_of k (xs ++ ys) ≡ None → (live_of k xs ≡ None) × (live_of k ys ≡ None)
+none_in_parts : (k : ℕ) (xs ys : List Line) → line_of k (xs ++ ys) ≡ None → (line_of k xs ≡ None) × (line_of k ys ≡ None)
 none_in_parts k [] ys e = (refl, e)
 none_in_parts k (x ∷ xs) ys e = by (x.k == k) e (none_in_parts k xs ys)
   where
-    by : (b : Bool) → (if b then Some x else live_of k (xs ++ ys)) ≡ None → (live_of k (xs ++ ys) ≡ None → (live_of k xs ≡ None) × (live_of k ys ≡ None)) → ((if b then Some x else live_of k xs) ≡ None) × (live_of k ys ≡ None)
-    by true none more = let clash : ◌≡◌ {A = Option Live} (Some x) None = none in cc
+    by : (b : Bool) → (if b then Some x else line_of k (xs ++ ys)) ≡ None → (line_of k (xs ++ ys) ≡ None → (line_of k xs ≡ None) × (line_of k ys ≡ None)) → ((if b then Some x else line_of k xs) ≡ None) × (line_of k ys ≡ None)
+    by true none more = let clash : ◌≡◌ {A = Option Line} (Some x) None = none in cc
     by false none more = more none
 
 -- ---- the last of some connections, which has a number of its own
 
-module _ (l : Live) where
-  pub last_found : (xs : List Live) → live_of l.k xs ≡ None → live_of l.k (xs ++ l ∷ []) ≡ Some l
+module _ (l : Line) where
+  pub last_found : (xs : List Line) → line_of l.k xs ≡ None → line_of l.k (xs ++ l ∷ []) ≡ Some l
   last_found [] none = ap (λ b. if b then Some l else None) (eq-eqb l.k l.k refl)
   last_found (x ∷ xs) none = by (x.k == l.k) none (last_found xs)
     where
-      by : (b : Bool) → (if b then Some x else live_of l.k xs) ≡ None → (live_of l.k xs ≡ None → live_of l.k (xs ++ l ∷ []) ≡ Some l) → (if b then Some x else live_of l.k (xs ++ l ∷ [])) ≡ Some l
-      by true none more = let clash : ◌≡◌ {A = Option Live} (Some x) None = none in cc
+      by : (b : Bool) → (if b then Some x else line_of l.k xs) ≡ None → (line_of l.k xs ≡ None → line_of l.k (xs ++ l ∷ []) ≡ Some l) → (if b then Some x else line_of l.k (xs ++ l ∷ [])) ≡ Some l
+      by true none more = let clash : ◌≡◌ {A = Option Line} (Some x) None = none in cc
       by false none more = more none
 
-  pub last_goes : (xs : List Live) → live_of l.k xs ≡ None → serving.without k_of l.k (xs ++ l ∷ []) ≡ xs
+  pub last_goes : (xs : List Line) → line_of l.k xs ≡ None → without k_of l.k (xs ++ l ∷ []) ≡ xs
   last_goes [] none = ap (λ b. if b then [] else l ∷ []) (eq-eqb l.k l.k refl)
   last_goes (x ∷ xs) none = by (x.k == l.k) none (last_goes xs)
     where
-      by : (b : Bool) → (if b then Some x else live_of l.k xs) ≡ None → (live_of l.k xs ≡ None → serving.without k_of l.k (xs ++ l ∷ []) ≡ xs) → (if b then serving.without k_of l.k (xs ++ l ∷ []) else x ∷ serving.without k_of l.k (xs ++ l ∷ [])) ≡ x ∷ xs
-      by true none more = let clash : ◌≡◌ {A = Option Live} (Some x) None = none in cc
-      by false none more = ap (λ (ls : List Live). x ∷ ls) (more none)
+      by : (b : Bool) → (if b then Some x else line_of l.k xs) ≡ None → (line_of l.k xs ≡ None → without k_of l.k (xs ++ l ∷ []) ≡ xs) → (if b then without k_of l.k (xs ++ l ∷ []) else x ∷ without k_of l.k (xs ++ l ∷ [])) ≡ x ∷ xs
+      by true none more = let clash : ◌≡◌ {A = Option Line} (Some x) None = none in cc
+      by false none more = ap (λ (ls : List Line). x ∷ ls) (more none)
 
-  differs : (x : Live) → live_of x.k (l ∷ []) ≡ None → (x.k == l.k) ≡ false
+  differs : (x : Line) → line_of x.k (l ∷ []) ≡ None → (x.k == l.k) ≡ false
   differs x none = elim (eqb_tells x.k l.k) [
-    | inl y ↦ (let found : live_of x.k (l ∷ []) ≡ Some l = ap (λ b. if b then Some l else None) (eq-eqb l.k x.k (sym y.1)) in let clash : ◌≡◌ {A = Option Live} (Some l) None = sym found ∙ none in cc)
+    | inl y ↦ (let found : line_of x.k (l ∷ []) ≡ Some l = ap (λ b. if b then Some l else None) (eq-eqb l.k x.k (sym y.1)) in let clash : ◌≡◌ {A = Option Line} (Some l) None = sym found ∙ none in cc)
     | inr y ↦ y.0
   ]
 
-  pub last_apart : (xs : List Live) → AreApart (xs ++ l ∷ []) → (live_of l.k xs ≡ None) × AreApart xs
+  pub last_apart : (xs : List Line) → AreApart (xs ++ l ∷ []) → (line_of l.k xs ≡ None) × AreApart xs
   last_apart [] apart = (refl, tt)
   last_apart (x ∷ xs) apart =
       let parts = none_in_parts x.k xs (l ∷ []) apart.0 in
       let more = last_apart xs apart.1 in
-      (ap (λ b. if b then Some x else live_of l.k xs) (differs x parts.1) ∙ more.0, (parts.0, more.1))
+      (ap (λ b. if b then Some x else line_of l.k xs) (differs x parts.1) ∙ more.0, (parts.0, more.1))
 
 -- What is kept of connections, and how many were opened.
-record AreNumbered (ls : List Live) (count : ℕ) : Type 0 where
+record AreNumbered (ls : List Line) (count : ℕ) : Type 0 where
   pub apart : AreApart ls
   pub below : AreBelow count ls
 
-none_without : (j k : ℕ) (ls : List Live) → live_of j ls ≡ None → live_of j (serving.without k_of k ls) ≡ None
+none_without : (j k : ℕ) (ls : List Line) → line_of j ls ≡ None → line_of j (without k_of k ls) ≡ None
 none_without j k [] e = refl
 none_without j k (l ∷ ls) e = by (l.k == k) (l.k == j) refl e (none_without j k ls)
   where
-    by : (b c : Bool) → (l.k == j) ≡ c → (if c then Some l else live_of j ls) ≡ None → (live_of j ls ≡ None → live_of j (serving.without k_of k ls) ≡ None) → live_of j (if b then serving.without k_of k ls else l ∷ serving.without k_of k ls) ≡ None
-    by b true is none more = let clash : ◌≡◌ {A = Option Live} (Some l) None = none in cc
+    by : (b c : Bool) → (l.k == j) ≡ c → (if c then Some l else line_of j ls) ≡ None → (line_of j ls ≡ None → line_of j (without k_of k ls) ≡ None) → line_of j (if b then without k_of k ls else l ∷ without k_of k ls) ≡ None
+    by b true is none more = let clash : ◌≡◌ {A = Option Line} (Some l) None = none in cc
     by true false is none more = more none
-    by false false is none more = ap (λ x. if x then Some l else live_of j (serving.without k_of k ls)) is ∙ more none
+    by false false is none more = ap (λ x. if x then Some l else line_of j (without k_of k ls)) is ∙ more none
 
-apart_without : (k : ℕ) (ls : List Live) → AreApart ls → AreApart (serving.without k_of k ls)
+apart_without : (k : ℕ) (ls : List Line) → AreApart ls → AreApart (without k_of k ls)
 apart_without k [] a = tt
 apart_without k (l ∷ ls) a = by (l.k == k) (apart_without k ls a.1)
   where
-    by : (b : Bool) → AreApart (serving.without k_of k ls) → AreApart (if b then serving.without k_of k ls else l ∷ serving.without k_of k ls)
+    by : (b : Bool) → AreApart (without k_of k ls) → AreApart (if b then without k_of k ls else l ∷ without k_of k ls)
     by true more = more
     by false more = (none_without l.k k ls a.0, more)
 
-below_without : (n k : ℕ) (ls : List Live) → AreBelow n ls → AreBelow n (serving.without k_of k ls)
+below_without : (n k : ℕ) (ls : List Line) → AreBelow n ls → AreBelow n (without k_of k ls)
 below_without n k [] b = tt
 below_without n k (l ∷ ls) b = by (l.k == k) (below_without n k ls b.1)
   where
-    by : (x : Bool) → AreBelow n (serving.without k_of k ls) → AreBelow n (if x then serving.without k_of k ls else l ∷ serving.without k_of k ls)
+    by : (x : Bool) → AreBelow n (without k_of k ls) → AreBelow n (if x then without k_of k ls else l ∷ without k_of k ls)
     by true more = more
     by false more = (b.0, more)
 
-none_answered : (whole : Bool) (j k : ℕ) (ls : List Live) → live_of j ls ≡ None → live_of j (map (serving.answered whole k) ls) ≡ None
-none_answered whole j k [] e = refl
-none_answered whole j k (l ∷ ls) e = by (l.k == j) e (none_answered whole j k ls)
+-- what changes connections keeps their numbers
+abbrev KeepsNumber : (Line → Line) → Type 0
+KeepsNumber f = (l : Line) → (f l).k ≡ l.k
+
+none_changed : (f : Line → Line) (j : ℕ) (ls : List Line) → KeepsNumber f → line_of j ls ≡ None → line_of j (map f ls) ≡ None
+none_changed f j [] keeps e = refl
+none_changed f j (l ∷ ls) keeps e = ap (λ n. if n == j then Some (f l) else line_of j (map f ls)) (keeps l) ∙ by (l.k == j) e (none_changed f j ls keeps)
   where
-    by : (b : Bool) → (if b then Some l else live_of j ls) ≡ None → (live_of j ls ≡ None → live_of j (map (serving.answered whole k) ls) ≡ None) → (if b then Some (serving.answered whole k l) else live_of j (map (serving.answered whole k) ls)) ≡ None
-    by true none more = let clash : ◌≡◌ {A = Option Live} (Some l) None = none in cc
+    by : (b : Bool) → (if b then Some l else line_of j ls) ≡ None → (line_of j ls ≡ None → line_of j (map f ls) ≡ None) → (if b then Some (f l) else line_of j (map f ls)) ≡ None
+    by true none more = let clash : ◌≡◌ {A = Option Line} (Some l) None = none in cc
     by false none more = more none
 
-apart_answered : (whole : Bool) (k : ℕ) (ls : List Live) → AreApart ls → AreApart (map (serving.answered whole k) ls)
-apart_answered whole k [] a = tt
-apart_answered whole k (l ∷ ls) a = (none_answered whole l.k k ls a.0, apart_answered whole k ls a.1)
+apart_changed : (f : Line → Line) (ls : List Line) → KeepsNumber f → AreApart ls → AreApart (map f ls)
+apart_changed f [] keeps a = tt
+apart_changed f (l ∷ ls) keeps a = (ap (λ n. line_of n (map f ls)) (keeps l) ∙ none_changed f l.k ls keeps a.0, apart_changed f ls keeps a.1)
 
-below_answered : (whole : Bool) (n k : ℕ) (ls : List Live) → AreBelow n ls → AreBelow n (map (serving.answered whole k) ls)
-below_answered whole n k [] b = tt
-below_answered whole n k (l ∷ ls) b = (b.0, below_answered whole n k ls b.1)
+below_changed : (f : Line → Line) (n : ℕ) (ls : List Line) → KeepsNumber f → AreBelow n ls → AreBelow n (map f ls)
+below_changed f n [] keeps b = tt
+below_changed f n (l ∷ ls) keeps b = (subst (λ k. k ≤ n) (sym (keeps l)) b.0, below_changed f n ls keeps b.1)
+
+changed : (f : Line → Line) (n : ℕ) (ls : List Line) → KeepsNumber f → AreNumbered ls n → AreNumbered (map f ls) n
+changed f n ls keeps h = record { apart = apart_changed f ls keeps h.apart; below = below_changed f n ls keeps h.below }
 
 module _ (setup : Setup) (before behind : Told) (s : serving.State) (h : AreNumbered s.live s.count) where
   acted : (act : Act) → MayAct before s act → AreNumbered (serving.live_acted s.live s.due act) (serving.count_after s.count (serving.Move.Acts act))
   acted (Open k route) may =
-      subst (λ n. AreNumbered (record { k = n; stream = serving.due_stream s.due; whole = false } ∷ s.live) (suc s.count)) (sym may.next)
+      subst (λ n. AreNumbered (record { k = n; route = route; stream = serving.due_stream s.due; answer = Pending } ∷ s.live) (suc s.count)) (sym may.next)
       (record { apart = (none_above s.count s.live h.below, h.apart); below = (omega arith, below_more s.count s.live h.below) })
-  acted (ToUp k octets) may = h
+  acted (ToUp k octets) may = used s.due
+    where
+      used : (due : Due) → AreNumbered (serving.lines_used due s.live) s.count
+      used (ToUse j stream text stage) = changed (given_to j stream) s.count s.live (λ l. refl) h
+      used Nothing = h
+      used (ToOpen stream route text stage) = h
+      used (ToSend j text) = h
   acted (Close k) may = record { apart = apart_without k s.live h.apart; below = below_without s.count k s.live h.below }
   acted CloseClient may = h
 
@@ -238,7 +255,7 @@ module _ (setup : Setup) (before behind : Told) (s : serving.State) (h : AreNumb
   numbered_behind (serving.Move.Drops noted item) may = h
   numbered_behind (serving.Move.Breaks breach) may = h
   numbered_behind (serving.Move.Notes event) may = h
-  numbered_behind (serving.Move.Hears event whole) may = record { apart = apart_answered whole (upstream_of event) s.live h.apart; below = below_answered whole s.count (upstream_of event) s.live h.below }
+  numbered_behind (serving.Move.Hears event heard) may = changed (with_answer (upstream_of event) (answer_by (idle_beside (upstream_of event) s.live) heard)) s.count s.live (λ l. refl) h
   numbered_behind (serving.Move.Fails k) may = record { apart = apart_without k s.live h.apart; below = below_without s.count k s.live h.below }
   numbered_behind (serving.Move.Sends noted) may = h
   numbered_behind (serving.Move.Acts act) may = acted act may

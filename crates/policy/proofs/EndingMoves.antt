@@ -29,8 +29,7 @@ use Rattle.offering.specs.Outbox.{can_go}
 use Rattle.offering.specs.Policy.{IsFlushed}
 use Rattle.offering.specs.Sight.{sight_in, windows_in}
 use Rattle.offering.proofs.Listing.{filter_same}
-use Rattle.serving.specs.State as serving
-use Rattle.serving.specs.State.{Live, k_of, live_of}
+use Rattle.serving.specs.Lines.{Line, k_of, line_of, without}
 use Rattle.serving.specs.State.Due.{Nothing}
 use Rattle.serving.specs.Rule.{is_done}
 use Rattle.policy.specs.Moves.{Move, told_in}
@@ -68,7 +67,7 @@ pub told_at : (setup : Setup) (run : List Move) → (desk_of setup (conducts run
 told_at setup run ends = ap (λ b. if b then (point_of setup (conducts run)).summary else summary_in (desk_of setup (conducts run)).book) ends
 
 -- The end was called for; these frames are owed, and these connections open.
-pub record IsEnding (setup : Setup) (run : List Move) (queue : List Frame) (lives : List Live) : Type 0 where
+pub record IsEnding (setup : Setup) (run : List Move) (queue : List Frame) (lives : List Line) : Type 0 where
   pub allowed : AllAllowed setup run
   pub ends : (desk_of setup (conducts run)).book.ends ≡ true
   pub open_yet : (desk_of setup (conducts run)).book.closed ≡ false
@@ -79,7 +78,7 @@ pub record IsEnding (setup : Setup) (run : List Move) (queue : List Frame) (live
   pub read : (state_of setup run).tables.lost ≡ false
   pub flushed : IsFlushed (windows_in (sight_in (point_of setup (conducts run)).summary)) (state_of setup run).offers
 
-module _ (setup : Setup) (run : List Move) (queue : List Frame) (live : List Live) (e : IsEnding setup run queue live) where
+module _ (setup : Setup) (run : List Move) (queue : List Frame) (live : List Line) (e : IsEnding setup run queue live) where
   abbrev p : Point
   p = point_of setup (conducts run)
 
@@ -100,7 +99,7 @@ module _ (setup : Setup) (run : List Move) (queue : List Frame) (live : List Liv
 
 -- ---- a frame that is owed
 
-pub farewell_goes : (setup : Setup) (run : List Move) (last code : ℕ) (live : List Live) (table : Table) → (nat_lt most_untaken (desk_of setup (conducts run)).book.untaken && not (is_calming (goaway last code))) ≡ false → IsEnding setup run (goaway last code ∷ []) live → IsEnding setup (Does (Sends (noted_of (goaway last code)) table) ∷ run) [] live
+pub farewell_goes : (setup : Setup) (run : List Move) (last code : ℕ) (live : List Line) (table : Table) → (nat_lt most_untaken (desk_of setup (conducts run)).book.untaken && not (is_calming (goaway last code))) ≡ false → IsEnding setup run (goaway last code ∷ []) live → IsEnding setup (Does (Sends (noted_of (goaway last code)) table) ∷ run) [] live
 farewell_goes setup run last code live table calm e = record {
   allowed = (
     e.allowed,
@@ -146,7 +145,7 @@ farewell_goes setup run last code live table calm e = record {
 
 -- ---- a connection is closed
 
-pub close_goes : (setup : Setup) (run : List Move) (l : Live) (ls : List Live) → live_of l.k ls ≡ None → IsEnding setup run [] (ls ++ l ∷ []) → IsEnding setup (Does (Acts (Close l.k)) ∷ run) [] ls
+pub close_goes : (setup : Setup) (run : List Move) (l : Line) (ls : List Line) → line_of l.k ls ≡ None → IsEnding setup run [] (ls ++ l ∷ []) → IsEnding setup (Does (Acts (Close l.k)) ∷ run) [] ls
 close_goes setup run l ls apart e = record {
   allowed = (
     e.allowed,
@@ -157,7 +156,7 @@ close_goes setup run l ls apart e = record {
       in_turn = tt;
       request = record {
         open_yet = told_open setup run [] (ls ++ l ∷ []) e;
-        may = record { nothing = e.due; live = l; found = ap (λ (xs : List Live). live_of l.k xs) e.live ∙ last_found l ls apart; why = inr (told_ends setup run [] (ls ++ l ∷ []) e) };
+        may = record { nothing = e.due; line = l; found = ap (λ (xs : List Line). line_of l.k xs) e.live ∙ last_found l ls apart; why = inr (told_ends setup run [] (ls ++ l ∷ []) e) };
       };
       gains = tt;
       calls = λ so. absurd (let no : false ≡ true = so in cc);
@@ -169,20 +168,20 @@ close_goes setup run l ls apart e = record {
   open_yet = e.open_yet;
   owes = e.owes;
   none_begun = e.none_begun;
-  live = ap (λ (xs : List Live). serving.without k_of l.k xs) e.live ∙ last_goes l ls apart;
+  live = ap (λ (xs : List Line). without k_of l.k xs) e.live ∙ last_goes l ls apart;
   due = e.due;
   read = e.read;
   flushed = e.flushed;
 }
 
 -- each is closed, the last first
-pub closes_go : (setup : Setup) (ls : List Live) (run : List Move) → AreApart (reverse ls) → IsEnding setup run [] (reverse ls) → IsEnding setup (closes_of ls ++ run) [] []
+pub closes_go : (setup : Setup) (ls : List Line) (run : List Move) → AreApart (reverse ls) → IsEnding setup run [] (reverse ls) → IsEnding setup (closes_of ls ++ run) [] []
 closes_go setup [] run apart e = e
 closes_go setup (l ∷ ls) run apart e =
     let is : reverse (l ∷ ls) ≡ reverse ls ++ l ∷ [] = reverse-append (l ∷ []) ls in
     let last = last_apart l (reverse ls) (subst AreApart is apart) in
     subst (λ (moves : List Move). IsEnding setup moves [] []) (sym (append_assoc (closes_of ls) (Does (Acts (Close l.k)) ∷ []) run))
-    (closes_go setup ls (Does (Acts (Close l.k)) ∷ run) last.1 (close_goes setup run l (reverse ls) last.0 (subst (λ (xs : List Live). IsEnding setup run [] xs) is e)))
+    (closes_go setup ls (Does (Acts (Close l.k)) ∷ run) last.1 (close_goes setup run l (reverse ls) last.0 (subst (λ (xs : List Line). IsEnding setup run [] xs) is e)))
 
 -- ---- the client is closed
 
@@ -213,7 +212,7 @@ module _ (setup : Setup) (run : List Move) (e : IsEnding setup run [] []) where
   rests = record {
     conduct = record { nothing = e.owes; none_begun = e.none_begun; ended = λ is. refl };
     flushed = subst (λ (s : Summary). IsFlushed (windows_in (sight_in s)) (state_of setup closed).offers) (sym (told_at setup closed e.ends)) e.flushed;
-    served = record { nothing = e.due; none_done = ap (λ (xs : List Live). list_any (is_done (told_in (summary_at setup closed))) xs) e.live; ended = λ is. is_shut };
+    served = record { nothing = e.due; none_done = ap (λ (xs : List Line). list_any (is_done (told_in (summary_at setup closed))) xs) e.live; ended = λ is. is_shut };
     read = e.read;
     given_back = λ open_yet. absurd (let no : true ≡ false = sym is_shut ∙ open_yet in cc);
   }

@@ -35,7 +35,7 @@ use Rattle.offering.specs.State.{Windows, find, are_open}
 use Rattle.offering.specs.Policy.{IsFlushed}
 use Rattle.offering.specs.Sight.{IsRightOf, sight_in, windows_in}
 use Rattle.offering.proofs.Sights.{right_by_summary}
-use Rattle.serving.specs.State.{Live}
+use Rattle.serving.specs.Lines.{Line}
 use Rattle.policy.specs.Moves.{Deed, Move, entry_of}
 use Rattle.policy.specs.Moves.Deed.{Breaks, Notes, Sends, Acts}
 use Rattle.policy.specs.Moves.Move.{Does}
@@ -53,7 +53,7 @@ use Rattle.policy.proofs.EndingMoves.{still_flushed, IsEnding, farewell_goes, cl
 
 -- ---- the tape
 
-closes_tape : (ls : List Live) (run : List Move) → tape_of (closes_of ls ++ run) ≡ closed_all ls ++ tape_of run
+closes_tape : (ls : List Line) (run : List Move) → tape_of (closes_of ls ++ run) ≡ closed_all ls ++ tape_of run
 closes_tape [] run = refl
 closes_tape (l ∷ ls) run =
     ap tape_of (append_assoc (closes_of ls) (Does (Acts (Close l.k)) ∷ []) run)
@@ -79,7 +79,7 @@ module _ (setup : Setup) (run : List Move) (all : AllAllowed setup run) where
   pub finish : (d : Deed) → IsEnding setup (farewell_of (state_of setup run) d ++ Does d ∷ run) [] (state_of setup run).requests.live → Ends setup run (state_of setup run) d
   finish d e =
       let back : reverse (by_number (state_of setup run)) ≡ (state_of setup run).requests.live = reverse-reverse (state_of setup run).requests.live in
-      let closing = closes_go setup (by_number (state_of setup run)) (farewell_of (state_of setup run) d ++ Does d ∷ run) (subst AreApart (sym back) (all_apart setup (turns_of setup run) (turns_may setup run all))) (subst (λ (ls : List Live). IsEnding setup (farewell_of (state_of setup run) d ++ Does d ∷ run) [] ls) (sym back) e) in
+      let closing = closes_go setup (by_number (state_of setup run)) (farewell_of (state_of setup run) d ++ Does d ∷ run) (subst AreApart (sym back) (all_apart setup (turns_of setup run) (turns_may setup run all))) (subst (λ (ls : List Line). IsEnding setup (farewell_of (state_of setup run) d ++ Does d ∷ run) [] ls) (sym back) e) in
       let same = sym (append_assoc (closes_of (by_number (state_of setup run))) (farewell_of (state_of setup run) d) (Does d ∷ run)) in
       record {
         allowed = subst (λ (moves : List Move). AllAllowed setup (Does (Acts CloseClient) ∷ moves)) same (client_closed setup (closes_of (by_number (state_of setup run)) ++ (farewell_of (state_of setup run) d ++ Does d ∷ run)) closing);

@@ -1,7 +1,6 @@
 -- Whoever keeps the rule keeps the clause on floods.
-use Rattle.std.proofs.Common.{◌≡◌, ℕ, Bool, true, false, not, ◌&&◌, ◌⊎◌, List, [], ◌∷◌, reverse, refl, sym, ap, ◌∙◌, subst, inl, inr}
+use Rattle.std.proofs.Common.{◌≡◌, true, false, not, ◌&&◌, List, [], ◌∷◌, reverse, sym, ap, ◌∙◌, subst, inl, inr}
 use Rattle.std.proofs.lemmas.Bool.{and_parts}
-use Rattle.model.specs.Frames.{Frame}
 use Rattle.model.specs.Tapes.{Noted, Entry}
 use Rattle.model.specs.Known.{Known}
 use Rattle.model.specs.ErrorClause.{is_calming, calls_for_end, stands_in}
@@ -21,8 +20,8 @@ use Rattle.receiving.proofs.Ruling.{run_goes_back}
 use Rattle.serving.specs.State.Due.{Nothing}
 use Rattle.serving.specs.Rule.{MaySend}
 use Rattle.serving.proofs.Clauses.{all_passed_on}
-use Rattle.policy.specs.Moves.{Deed, Move}
-use Rattle.policy.specs.Moves.Deed.{Takes, Breaks, Notes, Hears, Fails, Sends, Goes, Acts}
+use Rattle.policy.specs.Moves.{Move}
+use Rattle.policy.specs.Moves.Deed.{Takes, Breaks, Notes, Hears, Fails, Idles, Sends, Goes, Acts}
 use Rattle.policy.specs.Moves.Move.{Does, Settles}
 use Rattle.policy.specs.State.{conducts, tape_of, summary_at, turns_of, windows_of, state_of}
 use Rattle.policy.specs.Rule.{rooms_in, AllAllowed, WouldGo}
@@ -79,8 +78,9 @@ floods_hold known (Settles ∷ run) knows all answered = floods_hold known run k
 floods_hold known (Does (Takes noted next gain) ∷ run) knows all answered = floods_hold known run knows.0 all.0 answered.0
 floods_hold known (Does (Breaks breach) ∷ run) knows all answered = floods_hold known run knows.0 all.0 answered.0
 floods_hold known (Does (Notes event) ∷ run) knows all answered = floods_hold known run knows.0 all.0 answered.0
-floods_hold known (Does (Hears event stream news whole) ∷ run) knows all answered = floods_hold known run knows.0 all.0 answered.0
-floods_hold known (Does (Fails event stream whole) ∷ run) knows all answered = floods_hold known run knows.0 all.0 answered.0
+floods_hold known (Does (Hears event stream news heard) ∷ run) knows all answered = floods_hold known run knows.0 all.0 answered.0
+floods_hold known (Does (Fails event stream heard) ∷ run) knows all answered = floods_hold known run knows.0 all.0 answered.0
+floods_hold known (Does (Idles event) ∷ run) knows all answered = floods_hold known run knows.0 all.0 answered.0
 floods_hold known (Does (Sends noted next) ∷ run) knows all answered =
     (λ stands. would known run knows.0 all.0 answered.0 (none_due known run knows.0 all.0 answered.0 noted stands all.1.request.may) (all.1.calls (stood known run knows.0 all.0 answered.0 noted stands)), floods_hold known run knows.0 all.0 answered.0)
 floods_hold known (Does (Goes noted item part next) ∷ run) knows all answered =

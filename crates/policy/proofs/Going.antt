@@ -1,5 +1,5 @@
 -- Frames that bring no stream an item, and acts, have their move where they are due.
-use Rattle.std.proofs.Common.{◌≡◌, ℕ, true, false, ◌&&◌, ◌||◌, ◌==◌, Option, None, refl, sym, ◌∙◌, ap, subst, inl, inr, if◌then◌else◌}
+use Rattle.std.proofs.Common.{◌≡◌, ℕ, Bool, true, false, List, ◌&&◌, ◌||◌, ◌==◌, Option, None, refl, sym, ◌∙◌, ap, subst, inl, inr, if◌then◌else◌}
 use Rattle.std.proofs.lemmas.Bool.{or_parts}
 use Rattle.std.specs.Prelude.{drop, bytes_eq, not}
 use Rattle.model.specs.Frames.{Frame, data_kind, headers_kind, window_update_kind, continuation_kind, goaway_kind, has_flag, spell_number, enhance_your_calm}
@@ -18,8 +18,9 @@ use Rattle.receiving.specs.Rule as windows
 use Rattle.tables.specs.Rule.{IsGiven}
 use Rattle.model.specs.Synchrony.{begins_part}
 use Rattle.model.specs.Openings as openings
+use Rattle.model.specs.Openings.{begins_another}
 use Rattle.model.proofs.AloneLaws.{none_begins}
-use Rattle.policy.specs.Moves.{Deed, given_or_sent}
+use Rattle.policy.specs.Moves.{Deed, given_or_sent, sent_or_used, acted}
 use Rattle.policy.specs.Moves.Deed.{Sends}
 use Rattle.policy.specs.State.{State, gates_in}
 use Rattle.policy.specs.Rule.{rooms_in, MayDo}
@@ -92,12 +93,18 @@ module _ (setup : Setup) (behind : Summary) (s : State) where
       passes : (noted : Noted) → noted.frame.kind ≡ window_update_kind → is_passing noted ≡ true
       passes noted kind = ap (λ k. k == data_kind || k == headers_kind || k == continuation_kind || k == window_update_kind) kind
 
+  -- octets to an upstream, by whether they begin another exchange
+  sent_may : (k : ℕ) (octets : List ℕ) (another : Bool) → begins_another (openings.given k s.desk.book.given) s.desk.book.last octets ≡ another
+      → windows.MayCome setup.passing (gates_in (told_by s) s.requests) (sight_in (told_by s)) (sight_in behind) (rooms_in (told_by s) s) (sent_or_used another k octets)
+      → windows.MayCome setup.passing (gates_in (told_by s) s.requests) (sight_in (told_by s)) (sight_in behind) (rooms_in (told_by s) s) (acted (sight_in (told_by s)) (ToUp k octets))
+  sent_may k octets another is may = subst (λ b. windows.MayCome setup.passing (gates_in (told_by s) s.requests) (sight_in (told_by s)) (sight_in behind) (rooms_in (told_by s) s) (sent_or_used b k octets)) (sym is) may
+
   -- acts
   pub may_act : (act : Act) → s.desk.book.closed ≡ false → Acts setup s act → MayDo setup (told_by s) behind s (Deed.Acts act)
   may_act (Open k route) open_yet may = record {
     rests = λ e. absurd (let no : false ≡ true = e in cc);
     conduct = record { allowed = record { open_yet = open_yet; turn = may.nothing }; fit = tt };
-    offer = may.opens;
+    offer = may.begins;
     in_turn = tt;
     request = record { open_yet = open_yet; may = may.due };
     gains = tt;
@@ -105,16 +112,29 @@ module _ (setup : Setup) (behind : Summary) (s : State) where
     table = tt;
     window = may.window;
   }
-  may_act (ToUp k octets) open_yet may = record {
+  may_act (ToUp k octets) open_yet (inl puts) =
+      let none = none_begins (openings.given k s.desk.book.given) s.desk.book.last octets puts.window.its in
+      record {
+        rests = λ e. absurd (let no : false ≡ true = e in cc);
+        conduct = record { allowed = record { open_yet = open_yet; turn = puts.nothing }; fit = tt };
+        offer = λ another. absurd (let no : false ≡ true = sym none ∙ another in cc);
+        in_turn = tt;
+        request = record { open_yet = open_yet; may = inl puts.due };
+        gains = tt;
+        calls = λ so. absurd (let no : false ≡ true = so in cc);
+        table = tt;
+        window = sent_may k octets false none puts.window;
+      }
+  may_act (ToUp k octets) open_yet (inr uses) = record {
     rests = λ e. absurd (let no : false ≡ true = e in cc);
-    conduct = record { allowed = record { open_yet = open_yet; turn = may.nothing }; fit = tt };
-    offer = none_begins (openings.given k s.desk.book.given) s.desk.book.last octets may.window.its;
+    conduct = record { allowed = record { open_yet = open_yet; turn = uses.nothing }; fit = tt };
+    offer = λ another. uses.begins;
     in_turn = tt;
-    request = record { open_yet = open_yet; may = may.due };
+    request = record { open_yet = open_yet; may = inr uses.due };
     gains = tt;
     calls = λ so. absurd (let no : false ≡ true = so in cc);
     table = tt;
-    window = may.window;
+    window = sent_may k octets true uses.window.begins uses.window;
   }
   may_act (Close k) open_yet may = record {
     rests = λ e. absurd (let no : false ≡ true = e in cc);

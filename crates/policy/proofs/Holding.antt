@@ -82,10 +82,10 @@ module _ (known : Known) (run : List Move) (knows : AreKnown known (conducts run
 
   -- each outbox
   boxes : (known.setup.passing ≡ Streaming → FitRooms known (tape_of run)) → All (λ (k : Kept). offers.octets_in k.box ≤ offers.most_octets known.setup) s.offers.kept
-  boxes fit = outboxes.all_held known (offers_of known.setup run) (offers_may known.setup run all) (offers_right known run knows all) (offers_told known run answered) (limited fit)
+  boxes fit = outboxes.all_held known (offers_of known.setup run) (offers_may known.setup run all) (offers_right known run knows all) (offers_told known run knows answered) (limited fit)
 
   apart : AreDistinct (map (λ (k : Kept). k.id) s.offers.kept)
-  apart = are_distinct known (offers_of known.setup run) (offers_may known.setup run all) (offers_right known run knows all) (offers_told known run answered)
+  apart = are_distinct known (offers_of known.setup run) (offers_may known.setup run all) (offers_right known run knows all) (offers_told known run knows answered)
 
   -- what is kept for a stream
   pub little_for : (known.setup.passing ≡ Streaming → FitRooms known (tape_of run)) → known.setup.max_body < 2 ^ 64 → (stream : ℕ) → held_for stream s ≤ most_for_stream known.setup
@@ -115,7 +115,7 @@ module _ (known : Known) (run : List Move) (knows : AreKnown known (conducts run
     -- so no more have an outbox, or a request that isn't whole
     pub few_boxes : length s.offers.kept ≤ most_active
     few_boxes =
-        let same = are_of_active known (offers_of known.setup run) (offers_may known.setup run all) (offers_right known run knows all) (offers_told known run answered) in
+        let same = are_of_active known (offers_of known.setup run) (offers_may known.setup run all) (offers_right known run knows all) (offers_told known run knows answered) in
         let tape : length (active (offering.tape_of (offers_of known.setup run))) ≡ length (active (tape_of run)) = ap (λ (t : List Entry). length (active t)) (offers_tape known.setup run) in
         let count = ap length same in
         let mapped = length-map s.offers.kept (λ (k : Kept). k.id) in
@@ -143,7 +143,7 @@ module _ (known : Known) (run : List Move) (knows : AreKnown known (conducts run
     pub little_in_all : (known.setup.passing ≡ Streaming → FitRooms known (tape_of run)) → known.setup.max_body < 2 ^ 64 → held_in_all s ≤ most_in_all known.setup
     little_in_all fit range =
         let connection = little_on_connection in
-        let offer = outboxes.held_together known (offers_of known.setup run) (offers_may known.setup run all) (offers_right known run knows all) (offers_told known run answered) (limited fit) in
+        let offer = outboxes.held_together known (offers_of known.setup run) (offers_may known.setup run all) (offers_right known run knows all) (offers_told known run knows answered) (limited fit) in
         let request = waiting.all_by_body known (turns_of known.setup run) (turns_may known.setup run all) (turns_so known run knows all answered) range in
         let offer_tape : length (active (offering.tape_of (offers_of known.setup run))) ≡ length (active (tape_of run)) = ap (λ (t : List Entry). length (active t)) (offers_tape known.setup run) in
         let request_tape : length (active (serving.tape_of (turns_of known.setup run))) ≡ length (active (tape_of run)) = ap (λ (t : List Entry). length (active t)) (requests_tape known.setup run) in

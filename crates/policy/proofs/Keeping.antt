@@ -33,7 +33,7 @@ use Rattle.tables.proofs.Tables.{run_holds, tables_kept}
 use Rattle.tables.proofs.Reading.{all_came}
 use Rattle.tables.proofs.Synced.{in_step_by_states}
 use Rattle.policy.specs.Moves.{Deed, Move, entry_of, fails_in, comes_in}
-use Rattle.policy.specs.Moves.Deed.{Takes, Breaks, Notes, Hears, Fails, Sends, Goes, Acts}
+use Rattle.policy.specs.Moves.Deed.{Takes, Breaks, Notes, Hears, Fails, Idles, Sends, Goes, Acts}
 use Rattle.policy.specs.Moves.Move.{Does, Settles}
 use Rattle.policy.specs.State.{conducts, tape_of, offers_of, turns_of, tables_of, windows_of, state_of, summary_at}
 use Rattle.policy.specs.Rule.{rooms_in, AllAllowed, RestsBehind}
@@ -61,10 +61,10 @@ module _ (known : Known) (run : List Move) (k : IsKnown known run) (rests : Rest
   of_offers : offering.KeepClauses known t
   of_offers =
       subst (offering.KeepClauses known) (offers_tape known.setup run)
-      (run_keeps known (offers_of known.setup run) (offers_may known.setup run k.all) (offers_right known run k.knows k.all) (offers_told known run k.answered)
+      (run_keeps known (offers_of known.setup run) (offers_may known.setup run k.all) (offers_right known run k.knows k.all) (offers_told known run k.knows k.answered)
       (subst (λ (s : Sight). offering.IsFlushed (windows_in s) (state_of known.setup run).offers) (sym (offers_sight known.setup run)) rests.flushed))
 
-  of_requests : serving.KeepClauses known t
+  pub of_requests : serving.KeepClauses known t
   of_requests =
       subst (serving.KeepClauses known) (requests_tape known.setup run)
       (clauses_hold known (turns_of known.setup run) (turns_may known.setup run k.all) (turns_so known run k.knows k.all k.answered)
@@ -135,7 +135,7 @@ module _ (known : Known) (run : List Move) (k : IsKnown known run) (rests : Rest
       subst (λ (x : List Entry). InStep known x tables.encoding.table tables.decoding) (tables_tape known.setup run)
       (in_step_by_states known (tables_of known.setup run) (offers_of known.setup run) (tables_tape known.setup run ∙ sym (offers_tape known.setup run))
       (subst (λ (x : List Entry). Rattle.conduct.specs.Turn.Conducted known x) (sym (tables_tape known.setup run)) (in_turns known run k.knows k.all)) (tables_judged known run k.knows k.all)
-      (tables_fit known.setup run k.all) rests.read (offers_may known.setup run k.all) (offers_right known run k.knows k.all) (offers_told known run k.answered) (parts_begin known.setup run k.all))
+      (tables_fit known.setup run k.all) rests.read (offers_may known.setup run k.all) (offers_right known run k.knows k.all) (offers_told known run k.knows k.answered) (parts_begin known.setup run k.all))
 
 -- ---- before each thing that comes in
 
@@ -167,8 +167,9 @@ judged_one : (known : Known) (t : List Entry) (d : Deed) → fails_behind known 
 judged_one known t (Takes noted next gain) same so before = before
 judged_one known t (Breaks breach) same so before = before
 judged_one known t (Notes event) same so before = (judged_as known t event false same so, before)
-judged_one known t (Hears event stream news whole) same so before = (judged_as known t event false same so.2, before)
-judged_one known t (Fails event stream whole) same so before = (judged_as known t event true same so.1, before)
+judged_one known t (Hears event stream news heard) same so before = (judged_as known t event false same so.2, before)
+judged_one known t (Fails event stream heard) same so before = (judged_as known t event true same so.1, before)
+judged_one known t (Idles event) same so before = (judged_as known t event false same so.1, before)
 judged_one known t (Sends noted next) same so before = before
 judged_one known t (Goes noted item part next) same so before = before
 judged_one known t (Acts act) same so before = before

@@ -33,4 +33,6 @@ pub mod RunsBothWays
 pub mod RunsHeard
 pub mod RunsPartsHeard
 pub mod Unended
+pub mod Verdicts
+pub mod Idling
 pub mod Holding

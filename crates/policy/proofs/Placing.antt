@@ -1,14 +1,20 @@
 -- Each concern's moves came by its own rule, and what they were told is so.
-use Rattle.std.proofs.Common.{◌≡◌, Bool, List, [], ◌∷◌, refl, sym, ◌∙◌, ap, subst}
+use Rattle.std.proofs.Common.{◌≡◌, ℕ, Bool, true, false, ◌==◌, List, [], ◌∷◌, refl, sym, ◌∙◌, ap, subst, inl, inr}
 use Rattle.model.specs.Messages.{Item}
 use Rattle.model.specs.Messages.Item.{Block}
 use Rattle.model.specs.Setup.{Setup}
-use Rattle.model.specs.Logs.{Event}
+use Rattle.model.specs.Logs.{Event, Act}
 use Rattle.model.specs.Logs.Event.{Client, ClientEnd, ClientTook, Up, UpEnd, UpFailed, UpTook}
-use Rattle.model.specs.Openings.{given}
-use Rattle.model.specs.Tapes.{Noted, Entry}
+use Rattle.model.specs.Logs.Act.{Open, ToUp, Close, CloseClient}
+use Rattle.model.specs.Frames.{window_update_kind}
+use Rattle.model.specs.Openings.{exchanges, given, last_stream, begins_another}
+use Rattle.model.specs.WindowsOnTape.{is_on, data_octets}
+use Rattle.model.specs.Tapes.{Noted, Entry, came}
+use Rattle.model.proofs.AloneLaws.{none_begins}
 use Rattle.model.specs.Admission.{is_open}
-use Rattle.model.specs.Known.{Known}
+use Rattle.model.specs.Known.{Known, fails_behind}
+use Rattle.model.specs.Courses.{upstream_of}
+use Rattle.model.specs.Idle.{IsIdle}
 use Rattle.conduct.specs.Summary.{Summary, summary_of, stream_of}
 use Rattle.conduct.specs.Rule.{AreKnown}
 use Rattle.conduct.specs.Turn.{Conducted}
@@ -20,21 +26,23 @@ use Rattle.offering.specs.Sight.{Sight, IsRightOf, sight_in, windows_in}
 use Rattle.offering.specs.State as offering
 use Rattle.receiving.specs.Policy.{Gates, AreGates}
 use Rattle.receiving.specs.Rule as windows
+use Rattle.serving.specs.Lines.{Heard}
 use Rattle.serving.specs.Meaning.{IsSo, AreSo}
 use Rattle.serving.specs.Rule as requests
 use Rattle.serving.specs.State as serving
-use Rattle.serving.specs.Told.{IsTold}
-use Rattle.serving.proofs.Connections.{connections_told}
+use Rattle.serving.specs.Told.{Told, IsTold}
+use Rattle.serving.proofs.Connections.{connections_told, idle_used, octets_sent}
+use Rattle.serving.proofs.Idling.{hears_more, hears_end, hears_none}
 use Rattle.tables.specs.Kept.{IsJudgedIf, AllJudged}
 use Rattle.tables.specs.Rule as tables
 use Rattle.tables.specs.Turns.{MayBeginIf, AllBegan}
-use Rattle.policy.specs.Moves.{Gain, Deed, Move, offer_of, gained, failed, request_of, table_of, window_of, told_in}
+use Rattle.policy.specs.Moves.{Gain, Deed, Move, fails_in, offer_of, gained, failed, idled, request_of, table_of, given_or_sent, sent_or_used, acted, window_of, told_in}
 use Rattle.policy.specs.Moves.Gain.{Nothing, Begins, Gathers, Passes, Drops}
-use Rattle.policy.specs.Moves.Deed.{Takes, Breaks, Notes, Hears, Fails, Sends, Goes, Acts}
+use Rattle.policy.specs.Moves.Deed.{Takes, Breaks, Notes, Hears, Fails, Idles, Sends, Goes, Acts}
 use Rattle.policy.specs.Moves.Move.{Does, Settles}
 use Rattle.policy.specs.State.{gates_in, conducts, tape_of, summary_at, offers_of, turns_of, tables_of, windows_of, state_of}
 use Rattle.policy.specs.Rule.{rooms_in, added_in, Gains, AllAllowed}
-use Rattle.policy.specs.Answered.{IsWholeBy, IsAnswered, AreAnswered}
+use Rattle.policy.specs.Answered.{IsHeardBy, IsAnswered, AreAnswered}
 use Rattle.policy.proofs.Tapes.{offer_entry, offers_tape, requests_tape, tables_tape, windows_tape}
 use Rattle.policy.proofs.Telling.{live_told, all_moved, told_by, moves_same, sight_right, closed_told, told_right, verdict_told}
 use Rattle.policy.proofs.Adding.{none_added, one_added, first_added, added_by_book, right_by_book}
@@ -81,7 +89,7 @@ windows_may setup (Does d ∷ run) all = (
 windows_may setup (Settles ∷ run) all = (windows_may setup run all, tt)
 
 pub turns_may : (setup : Setup) (run : List Move) → AllAllowed setup run → requests.AreAllowed setup (turns_of setup run)
-turns_may setup [] all = all
+turns_may setup [] all = tt
 turns_may setup (Does d ∷ run) all = (
   turns_may setup run all.0,
   subst (λ told. requests.IsAllowed setup told (told_in (summary_at setup (Does d ∷ run))) (serving.state_of setup (turns_of setup run)) (request_of d)) (sym (turns_told setup run)) all.1.request,
@@ -109,7 +117,7 @@ in_turns known run knows all = conducted known (conducts run) knows (has_kept kn
 -- ---- what was told is so
 
 pub offers_right : (known : Known) (run : List Move) → AreKnown known (conducts run) → AllAllowed known.setup run → offers.AreRight known (offers_of known.setup run)
-offers_right known [] knows all = all
+offers_right known [] knows all = tt
 offers_right known (Does d ∷ run) knows all = (
   offers_right known run knows.0 all.0,
   subst (λ (t : List Entry). IsRightOf known t (sight_in (summary_at known.setup (Does d ∷ run)))) (sym (offers_tape known.setup (Does d ∷ run))) (sight_right known (Does d ∷ run) knows (all_moved known (Does d ∷ run) all)),
@@ -117,32 +125,34 @@ offers_right known (Does d ∷ run) knows all = (
 offers_right known (Settles ∷ run) knows all = offers_right known run knows all
 
 -- what a deed tells of an answer
-told_one : (known : Known) (s u : Sight) (t : List Entry) (d : Deed) → IsAnswered known t d → offers.IsTold known t (offer_of s u d)
-told_one known s u t (Takes noted next gain) so = tt
-told_one known s u t (Breaks breach) so = tt
-told_one known s u t (Notes event) so = tt
-told_one known s u t (Hears event stream news whole) so = so.0
-told_one known s u t (Fails event stream whole) so = tt
-told_one known s u t (Sends noted next) so = tt
-told_one known s u t (Goes noted item part next) so = tt
-told_one known s u t (Acts act) so = tt
+told_one : (known : Known) (s u : Sight) (t : List Entry) (d : Deed) → fails_behind known t ≡ fails_in d → IsAnswered known t d → offers.IsTold known t (offer_of s u d)
+told_one known s u t (Takes noted next gain) fails so = tt
+told_one known s u t (Breaks breach) fails so = tt
+told_one known s u t (Notes event) fails so = tt
+told_one known s u t (Hears event stream news heard) fails so = so.0
+told_one known s u t (Fails event stream heard) fails so = tt
+told_one known s u t (Idles event) fails so = record { idle = so.0; sound = fails }
+told_one known s u t (Sends noted next) fails so = tt
+told_one known s u t (Goes noted item part next) fails so = tt
+told_one known s u t (Acts act) fails so = tt
 
-pub offers_told : (known : Known) (run : List Move) → AreAnswered known run → offers.AreTold known (offers_of known.setup run)
-offers_told known [] so = tt
-offers_told known (Does d ∷ run) so = (
-  offers_told known run so.0,
+pub offers_told : (known : Known) (run : List Move) → AreKnown known (conducts run) → AreAnswered known run → offers.AreTold known (offers_of known.setup run)
+offers_told known [] knows so = tt
+offers_told known (Does d ∷ run) knows so = (
+  offers_told known run knows.0 so.0,
   subst (λ (t : List Entry). offers.IsTold known t (offer_of (sight_in (summary_at known.setup run)) (sight_in (summary_at known.setup (Does d ∷ run))) d)) (sym (offers_tape known.setup run))
-      (told_one known (sight_in (summary_at known.setup run)) (sight_in (summary_at known.setup (Does d ∷ run))) (tape_of run) d so.1),
+      (told_one known (sight_in (summary_at known.setup run)) (sight_in (summary_at known.setup (Does d ∷ run))) (tape_of run) d knows.1 so.1),
 )
-offers_told known (Settles ∷ run) so = offers_told known run so
+offers_told known (Settles ∷ run) knows so = offers_told known run knows so
 
 -- the verdicts on frames
 judged_one : (known : Known) (run : List Move) → AreKnown known (conducts run) → AllAllowed known.setup run → (d : Deed) → IsJudgedIf (tape_of run) (table_of (summary_at known.setup run) d)
 judged_one known run knows all (Takes noted next gain) = verdict_told known run knows (all_moved known run all) noted
 judged_one known run knows all (Breaks breach) = tt
 judged_one known run knows all (Notes event) = tt
-judged_one known run knows all (Hears event stream news whole) = tt
-judged_one known run knows all (Fails event stream whole) = tt
+judged_one known run knows all (Hears event stream news heard) = tt
+judged_one known run knows all (Fails event stream heard) = tt
+judged_one known run knows all (Idles event) = tt
 judged_one known run knows all (Sends noted next) = (sight_right known run knows (all_moved known run all)).block
 judged_one known run knows all (Goes noted item part next) = (sight_right known run knows (all_moved known run all)).block
 judged_one known run knows all (Acts act) = tt
@@ -177,21 +187,33 @@ gained_so known t s noted (Gathers item route text old body written stage) tells
 gained_so known t s noted (Passes item k old written stage) tells gains = one_added known t noted s tells.same tells.right item gains
 gained_so known t s noted (Drops item) tells gains = one_added known t noted s tells.same tells.right item gains
 
-failed_so : (known : Known) (t : List Entry) (event : Event) (whole : Bool) → IsWholeBy known t event whole → IsSo known t (failed event whole)
-failed_so known t (UpFailed k) whole so = tt
-failed_so known t (Client piece) whole so = so
-failed_so known t ClientEnd whole so = so
-failed_so known t (ClientTook count) whole so = so
-failed_so known t (Up k piece) whole so = so
-failed_so known t (UpEnd k) whole so = so
-failed_so known t (UpTook k count) whole so = so
+failed_so : (known : Known) (t : List Entry) (event : Event) (heard : Heard) → IsHeardBy known t event heard → IsSo known t (failed event heard)
+failed_so known t (UpFailed k) heard so = tt
+failed_so known t (Client piece) heard so = so
+failed_so known t ClientEnd heard so = so
+failed_so known t (ClientTook count) heard so = so
+failed_so known t (Up k piece) heard so = so
+failed_so known t (UpEnd k) heard so = so
+failed_so known t (UpTook k count) heard so = so
+
+-- what comes of an idle connection
+idled_so : (known : Known) (t : List Entry) (event : Event) → IsIdle known t (upstream_of event) → IsSo known t (idled event)
+idled_so known t (Client piece) idle = tt
+idled_so known t ClientEnd idle = tt
+idled_so known t (ClientTook count) idle = tt
+idled_so known t (Up k []) idle = hears_none known t k idle
+idled_so known t (Up k (octet ∷ octets)) idle = hears_more known t k idle octet octets
+idled_so known t (UpEnd k) idle = hears_end known t k idle
+idled_so known t (UpFailed k) idle = tt
+idled_so known t (UpTook k count) idle = tt
 
 request_so : (known : Known) (run : List Move) → AreKnown known (conducts run) → (all : AllAllowed known.setup run) → (d : Deed) → Rattle.policy.specs.Rule.GainsIf known.setup (summary_at known.setup run) d → IsAnswered known (tape_of run) d → IsSo known (tape_of run) (request_of d)
 request_so known run knows all (Takes noted next gain) gains so = gained_so known (tape_of run) (summary_at known.setup run) noted gain (gain_told known run knows all noted) gains
 request_so known run knows all (Breaks breach) gains so = tt
 request_so known run knows all (Notes event) gains so = tt
-request_so known run knows all (Hears event stream news whole) gains so = so.1
-request_so known run knows all (Fails event stream whole) gains so = failed_so known (tape_of run) event whole so.0
+request_so known run knows all (Hears event stream news heard) gains so = so.1
+request_so known run knows all (Fails event stream heard) gains so = failed_so known (tape_of run) event heard so.0
+request_so known run knows all (Idles event) gains so = idled_so known (tape_of run) event so.0
 request_so known run knows all (Sends noted next) gains so = tt
 request_so known run knows all (Goes noted item part next) gains so = tt
 request_so known run knows all (Acts act) gains so = tt
@@ -219,15 +241,57 @@ gates_right known run knows all so =
       closed = closed_told known run knows moved;
     }
 
-pub windows_right : (known : Known) (run : List Move) → AreKnown known (conducts run) → AllAllowed known.setup run → AreAnswered known run → windows.AreRight known (windows_of known.setup run)
+-- no DATA came on a stream that a kept connection is given to
+module _ (known : Known) (run : List Move) (knows : AreKnown known (conducts run)) (all : AllAllowed known.setup run) (so : AreAnswered known run) where
+  abbrev before : Sight
+  before = sight_in (summary_at known.setup run)
+
+  given_told : (b : Bool) (s u : Sight) (noted : Noted) → windows.IsTold known.setup.passing (tape_of run) (given_or_sent b s u noted)
+  given_told true s u noted = tt
+  given_told false s u noted = tt
+
+  bare_told : (k : ℕ) (octets : List ℕ) (b : Bool) → begins_another (given k before.given) before.last octets ≡ b → requests.MayAct (told_in (summary_at known.setup run)) (serving.state_of known.setup (turns_of known.setup run)) (ToUp k octets)
+      → windows.IsTold known.setup.passing (tape_of run) (sent_or_used b k octets)
+  bare_told k octets false is may = tt
+  bare_told k octets true is (inl send) =
+      let turns = turns_of known.setup run in
+      let right = sight_right known run knows (all_moved known run all) in
+      let its : given k (exchanges (tape_of run)) ≡ last_stream (tape_of run) = subst (λ (t : List Entry). given k (exchanges t) ≡ last_stream t) (requests_tape known.setup run) (octets_sent known turns (turns_may known.setup run all) (turns_so known run knows all so) k octets send) in
+      let same : given k before.given ≡ before.last = ap (λ os. given k os) right.given ∙ its ∙ sym right.last in
+      absurd (let clash : false ≡ true = sym (none_begins (given k before.given) before.last octets same) ∙ is in cc)
+  bare_told k octets true is (inr used) = λ streaming.
+      let turns = turns_of known.setup run in
+      subst (λ (t : List Entry). data_octets (is_on (last_stream t)) (came t) ≡ 0) (requests_tape known.setup run) ((idle_used known turns (turns_may known.setup run all) (turns_so known run knows all so) k octets used).bare streaming)
+
+  acted_told : (act : Act) → requests.MayAct (told_in (summary_at known.setup run)) (serving.state_of known.setup (turns_of known.setup run)) act → windows.IsTold known.setup.passing (tape_of run) (acted before act)
+  acted_told (Open k route) may = tt
+  acted_told (ToUp k octets) may = bare_told k octets (begins_another (given k before.given) before.last octets) refl may
+  acted_told (Close k) may = tt
+  acted_told CloseClient may = tt
+
+  window_told : (u : Sight) (behind : Told) (d : Deed) → requests.MayMove known.setup (told_in (summary_at known.setup run)) behind (serving.state_of known.setup (turns_of known.setup run)) (request_of d) → windows.IsTold known.setup.passing (tape_of run) (window_of before u d)
+  window_told u behind (Takes noted next gain) may = tt
+  window_told u behind (Breaks breach) may = tt
+  window_told u behind (Notes event) may = tt
+  window_told u behind (Hears event stream news heard) may = tt
+  window_told u behind (Fails event stream heard) may = tt
+  window_told u behind (Idles event) may = tt
+  window_told u behind (Sends noted next) may = given_told (noted.frame.kind == window_update_kind) before u noted
+  window_told u behind (Goes noted item part next) may = given_told (noted.frame.kind == window_update_kind) before u noted
+  window_told u behind (Acts act) may = acted_told act may
+
+pub windows_right : (known : Known) (run : List Move) → AreKnown known (conducts run) → AllAllowed known.setup run → AreAnswered known run → windows.AreRight known known.setup.passing (windows_of known.setup run)
 windows_right known [] knows all so = tt
 windows_right known (Does d ∷ run) knows all so = (
   windows_right known run knows.0 all.0 so.0,
   subst (λ (t : List Entry). IsRightOf known t (sight_in (summary_at known.setup (Does d ∷ run)))) (sym (windows_tape known.setup (Does d ∷ run))) (sight_right known (Does d ∷ run) knows (all_moved known (Does d ∷ run) all)),
   subst (λ (t : List Entry). AreGates t (gates_in (summary_at known.setup (Does d ∷ run)) (serving.state_of known.setup (turns_of known.setup (Does d ∷ run))))) (sym (windows_tape known.setup (Does d ∷ run))) (gates_right known (Does d ∷ run) knows all so),
+  subst (λ (t : List Entry). windows.IsTold known.setup.passing t (window_of (sight_in (summary_at known.setup run)) (sight_in (summary_at known.setup (Does d ∷ run))) d)) (sym (windows_tape known.setup run))
+      (window_told known run knows.0 all.0 so.0 (sight_in (summary_at known.setup (Does d ∷ run))) (told_in (summary_at known.setup (Does d ∷ run))) d all.1.request.may),
 )
 windows_right known (Settles ∷ run) knows all so = (
   windows_right known run knows all so,
   subst (λ (t : List Entry). IsRightOf known t (sight_in (summary_at known.setup run))) (sym (windows_tape known.setup run)) (sight_right known run knows (all_moved known run all)),
   subst (λ (t : List Entry). AreGates t (gates_in (summary_at known.setup run) (serving.state_of known.setup (turns_of known.setup run)))) (sym (windows_tape known.setup run)) (gates_right known run knows all so),
+  tt,
 )

@@ -24,6 +24,8 @@ use Rattle.offering.specs.Outbox.Outbox.{Before, Behind}
 use Rattle.offering.specs.Outbox.Part.{Final, Octets}
 use Rattle.offering.specs.State.{Kept}
 use Rattle.receiving.specs.State.{add, change, owing, blank, given}
+use Rattle.serving.specs.Lines.Answer.{Done, Pending}
+use Rattle.serving.specs.Lines.Heard.{Finished}
 use Rattle.serving.specs.State.Due.{Nothing}
 use Rattle.tables.specs.Rule.{IsEncoded}
 use Rattle.tables.proofs.Requests.{decoded}
@@ -69,7 +71,7 @@ abbrev pub body_out : Noted
 body_out = plain (frame 0 1 1 (codes "hi"))
 
 abbrev pub heard_deed : Deed
-heard_deed = Hears (Up 1 answer_text) 1 news true
+heard_deed = Hears (Up 1 answer_text) 1 news Finished
 
 abbrev pub head_deed : Deed
 head_deed = Goes head_out (Block (ok ∷ sized ∷ []) false) (Final answer_head false) encoded
@@ -125,7 +127,7 @@ abbrev pub at_forwarded : State
 at_forwarded = record {
   desk = desk_with (record { id = 1; slot = Live (one false) }) 65535 30;
   offers = record { kept = record { id = 1; box = silent; cut = false } ∷ []; last = 0 };
-  requests = record { held = []; live = record { k = 1; stream = 1; whole = false } ∷ []; due = Nothing; count = 1 };
+  requests = record { held = []; live = record { k = 1; route = 0; stream = 1; answer = Pending } ∷ []; due = Nothing; count = 1 };
   tables = record { decoding = decoded; unread = false; lost = false; encoding = record { table = first_table; limits = None; indexing = true; refused = false }; limit = 4096 };
   windows = record {
     row = change 1 (owing 0) (change 1 (given 1) (change 1 (λ r. blank) (change 0 (owing 0) (λ id. blank))));
@@ -148,7 +150,7 @@ waiting = record { id = 1; box = Before [] (Some answer_head) (codes "hi") (Some
 abbrev pub at_heard : State
 at_heard = record at_forwarded {
   offers = record at_forwarded.offers { kept = waiting ∷ [] };
-  requests = record at_forwarded.requests { live = record { k = 1; stream = 1; whole = true } ∷ [] };
+  requests = record at_forwarded.requests { live = record { k = 1; route = 0; stream = 1; answer = Done } ∷ [] };
   windows = record at_forwarded.windows { settled = false };
 }
 
@@ -279,9 +281,9 @@ unfolding total_size
 heard_may = record {
   rests = λ e. forwarded_rest;
   conduct = record { allowed = record { open_yet = refl; turn = record { nothing = refl; none_begun = refl; goes_on = refl } }; fit = λ e. never e };
-  offer = (forwarded_rest.flushed, record { o = record { k = 1; route = 0; stream = 1 }; there = inl refl; is_given = refl; number = refl; active = refl; no_cause = refl }, refl);
+  offer = (forwarded_rest.flushed, record { is_given = refl; active = refl; no_cause = refl }, refl);
   in_turn = tt;
-  request = record { open_yet = refl; may = (record { nothing = refl; none_done = refl; goes_on = refl }, tt, (record { k = 1; stream = 1; whole = false }, refl)) };
+  request = record { open_yet = refl; may = (record { nothing = refl; none_done = refl; goes_on = refl }, tt, (record { k = 1; route = 0; stream = 1; answer = Pending }, refl)) };
   gains = tt;
   calls = λ so. absurd (let no : false ≡ true = so in cc);
   table = tt;
@@ -295,7 +297,7 @@ closed_may = record {
   conduct = record { allowed = record { open_yet = refl; turn = refl }; fit = tt };
   offer = tt;
   in_turn = tt;
-  request = record { open_yet = refl; may = record { nothing = refl; live = record { k = 1; stream = 1; whole = true }; found = refl; why = inl refl } };
+  request = record { open_yet = refl; may = record { nothing = refl; line = record { k = 1; route = 0; stream = 1; answer = Done }; found = refl; why = inl refl } };
   gains = tt;
   calls = λ so. absurd (let no : false ≡ true = so in cc);
   table = tt;

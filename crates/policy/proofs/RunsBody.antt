@@ -21,6 +21,7 @@ use Rattle.offering.specs.Outbox.{silent}
 use Rattle.offering.specs.State.{Kept, find}
 use Rattle.receiving.specs.State as receiving
 use Rattle.receiving.specs.State.{add, change, owing, blank, paid, given}
+use Rattle.serving.specs.Lines.Answer.{Pending}
 use Rattle.serving.specs.State.{Held}
 use Rattle.serving.specs.State.Way.{Waiting}
 use Rattle.serving.specs.State.Due.{Nothing, ToOpen, ToSend}
@@ -185,7 +186,7 @@ at_get = record at_returns {
 abbrev pub at_opened : State
 at_opened = record at_get {
   desk = desk_of_all (get_row 5 ∷ post_row 2 65535 ∷ get_row 1 ∷ []) (second_given ∷ first_given ∷ []) 5 65535 56;
-  requests = record at_get.requests { live = record { k = 2; stream = 5; whole = false } ∷ record { k = 1; stream = 1; whole = false } ∷ []; due = ToSend 2 request_text; count = 2 };
+  requests = record at_get.requests { live = record { k = 2; route = 0; stream = 5; answer = Pending } ∷ record { k = 1; route = 0; stream = 1; answer = Pending } ∷ []; due = ToSend 2 request_text; count = 2 };
   windows = record at_get.windows { row = change 5 (given 2) at_get.windows.row };
 }
 
@@ -492,7 +493,7 @@ unfolding total_size
 opened_may = record {
   rests = λ e. never e;
   conduct = record { allowed = record { open_yet = refl; turn = refl }; fit = tt };
-  offer = record { active = refl; has_items = refl; no_cause = refl; first = (λ e. let clash : 5 ≡ 1 = e in omega (arith, clash), tt); next = refl };
+  offer = record { active = refl; has_items = refl; no_cause = refl; first = (λ e. let clash : 5 ≡ 1 = e in omega (arith, clash), tt); counted = omega arith };
   in_turn = tt;
   request = record { open_yet = refl; may = record { stream = 5; text = request_text; stage = Whole; due = refl; next = refl } };
   gains = tt;
@@ -506,9 +507,9 @@ unfolding total_size
 put_may = record {
   rests = λ e. never e;
   conduct = record { allowed = record { open_yet = refl; turn = refl }; fit = tt };
-  offer = refl;
+  offer = λ begins. absurd (let no : false ≡ true = begins in cc);
   in_turn = tt;
-  request = record { open_yet = refl; may = refl };
+  request = record { open_yet = refl; may = inl refl };
   gains = tt;
   calls = λ so. absurd (let no : false ≡ true = so in cc);
   table = tt;

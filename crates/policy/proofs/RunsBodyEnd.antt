@@ -15,6 +15,7 @@ use Rattle.model.specs.Headline.{ClausesHold}
 use Rattle.h1_writer.specs.Sending.{Continues, head_of, content_of, chunk_text, last_chunk}
 use Rattle.h1_writer.specs.Sending.Stage.{Whole, Chunking}
 use Rattle.h1_writer.proofs.Stages.{adds_chunk}
+use Rattle.serving.specs.Lines.Answer.{Pending}
 use Rattle.serving.proofs.Writing.{ends_behind}
 use Rattle.conduct.specs.Summary.{Stream as Told}
 use Rattle.conduct.specs.Rows.{Row, fresh}
@@ -89,7 +90,7 @@ at_comes = record at_between {
 abbrev pub at_opened : State
 at_opened = record at_comes {
   desk = desk_of_all all_rows (third_given ∷ second_given ∷ first_given ∷ []) 3 65534 56;
-  requests = record at_comes.requests { live = record { k = 3; stream = 3; whole = false } ∷ at_between.requests.live; due = ToSend 3 whole_text; count = 3 };
+  requests = record at_comes.requests { live = record { k = 3; route = 0; stream = 3; answer = Pending } ∷ at_between.requests.live; due = ToSend 3 whole_text; count = 3 };
   windows = record at_comes.windows { row = change 3 (given 3) at_between.windows.row };
 }
 
@@ -155,7 +156,7 @@ unfolding total_size
 opened_may = record {
   rests = λ e. never e;
   conduct = record { allowed = record { open_yet = refl; turn = refl }; fit = tt };
-  offer = record { active = refl; has_items = refl; no_cause = refl; first = (λ e. let clash : 3 ≡ 5 = e in omega (arith, clash), (λ e. let clash : 3 ≡ 1 = e in omega (arith, clash), tt)); next = refl };
+  offer = record { active = refl; has_items = refl; no_cause = refl; first = (λ e. let clash : 3 ≡ 5 = e in omega (arith, clash), (λ e. let clash : 3 ≡ 1 = e in omega (arith, clash), tt)); counted = omega arith };
   in_turn = tt;
   request = record { open_yet = refl; may = record { stream = 3; text = whole_text; stage = Whole; due = refl; next = refl } };
   gains = tt;
@@ -169,9 +170,9 @@ unfolding total_size
 put_may = record {
   rests = λ e. never e;
   conduct = record { allowed = record { open_yet = refl; turn = refl }; fit = tt };
-  offer = refl;
+  offer = λ begins. absurd (let no : false ≡ true = begins in cc);
   in_turn = tt;
-  request = record { open_yet = refl; may = refl };
+  request = record { open_yet = refl; may = inl refl };
   gains = tt;
   calls = λ so. absurd (let no : false ≡ true = so in cc);
   table = tt;

@@ -13,6 +13,8 @@ use Rattle.model.specs.Deliveries.{Delivery}
 use Rattle.h1_writer.specs.Sending.{chunk_text, last_chunk}
 use Rattle.h1_writer.specs.Sending.Stage.{Whole, Chunking}
 use Rattle.h1_writer.proofs.Stages.{adds_chunk}
+use Rattle.serving.specs.Lines.Answer.{Done, Pending}
+use Rattle.serving.specs.Lines.Heard.{Finished, Partly}
 use Rattle.serving.proofs.Writing.{ends_behind}
 use Rattle.conduct.specs.Summary.{Stream as Told}
 use Rattle.conduct.specs.Book.{Desk}
@@ -34,7 +36,7 @@ use Rattle.policy.proofs.RunsSteps.{goes, settles, rests}
 use Rattle.policy.proofs.RunsGreeting.{frame, plain, never, none_kept}
 use Rattle.policy.proofs.RunsRequest.{one_whole, only_one}
 use Rattle.policy.proofs.RunsAnswer.{answer_head, ok, sized, encoded, head_out, answer_encoded, each_one}
-use Rattle.policy.proofs.RunsBody.{first_given, posting}
+use Rattle.policy.proofs.RunsBody.{posting}
 use Rattle.policy.proofs.RunsBodyEnd.{text_ends}
 use Rattle.policy.proofs.RunsTurns.{boxed, first_live}
 use Rattle.policy.proofs.RunsStreaming.{streaming, text, chunk, took_deed, shared_back, own_back, waits, at_waits, waits_rest, waits_leads}
@@ -52,10 +54,10 @@ abbrev pub end_news : Delivery
 end_news = record { interims = []; head = None; body = codes "i"; ends = Some [] }
 
 abbrev pub begin_deed : Deed
-begin_deed = Hears (Up 1 begin_text) 1 begin_news false
+begin_deed = Hears (Up 1 begin_text) 1 begin_news Partly
 
 abbrev pub end_deed : Deed
-end_deed = Hears (Up 1 (codes "i")) 1 end_news true
+end_deed = Hears (Up 1 (codes "i")) 1 end_news Finished
 
 -- what goes out of it
 abbrev pub h_out : Noted
@@ -189,7 +191,7 @@ at_ended = next streaming at_put Settles
 abbrev pub at_whole : State
 at_whole = record at_ended {
   offers = record at_ended.offers { kept = boxed 1 (Behind (codes "i") (Some [])) ∷ [] };
-  requests = record at_ended.requests { live = first_live true ∷ [] };
+  requests = record at_ended.requests { live = first_live Done ∷ [] };
   windows = record at_ended.windows { settled = false };
 }
 
@@ -248,9 +250,9 @@ unfolding total_size
 begin_may = record {
   rests = λ e. waits_rest;
   conduct = record { allowed = record { open_yet = refl; turn = record { nothing = refl; none_begun = refl; goes_on = refl } }; fit = λ e. never e };
-  offer = (waits_rest.flushed, record { o = first_given; there = inl refl; is_given = refl; number = refl; active = refl; no_cause = refl }, refl);
+  offer = (waits_rest.flushed, record { is_given = refl; active = refl; no_cause = refl }, refl);
   in_turn = tt;
-  request = record { open_yet = refl; may = (record { nothing = refl; none_done = refl; goes_on = refl }, tt, (first_live false, refl)) };
+  request = record { open_yet = refl; may = (record { nothing = refl; none_done = refl; goes_on = refl }, tt, (first_live Pending, refl)) };
   gains = tt;
   calls = λ so. absurd (let no : false ≡ true = so in cc);
   table = tt;
@@ -388,9 +390,9 @@ unfolding total_size
 put_may = record {
   rests = λ e. never e;
   conduct = record { allowed = record { open_yet = refl; turn = refl }; fit = tt };
-  offer = refl;
+  offer = λ begins. absurd (let no : false ≡ true = begins in cc);
   in_turn = tt;
-  request = record { open_yet = refl; may = refl };
+  request = record { open_yet = refl; may = inl refl };
   gains = tt;
   calls = λ so. absurd (let no : false ≡ true = so in cc);
   table = tt;
@@ -402,9 +404,9 @@ unfolding total_size
 end_may = record {
   rests = λ e. ended_rest;
   conduct = record { allowed = record { open_yet = refl; turn = record { nothing = refl; none_begun = refl; goes_on = refl } }; fit = λ e. never e };
-  offer = (ended_rest.flushed, record { o = first_given; there = inl refl; is_given = refl; number = refl; active = refl; no_cause = refl }, refl);
+  offer = (ended_rest.flushed, record { is_given = refl; active = refl; no_cause = refl }, refl);
   in_turn = tt;
-  request = record { open_yet = refl; may = (record { nothing = refl; none_done = refl; goes_on = refl }, tt, (first_live false, refl)) };
+  request = record { open_yet = refl; may = (record { nothing = refl; none_done = refl; goes_on = refl }, tt, (first_live Pending, refl)) };
   gains = tt;
   calls = λ so. absurd (let no : false ≡ true = so in cc);
   table = tt;
@@ -418,7 +420,7 @@ closed_may = record {
   conduct = record { allowed = record { open_yet = refl; turn = refl }; fit = tt };
   offer = tt;
   in_turn = tt;
-  request = record { open_yet = refl; may = record { nothing = refl; live = first_live true; found = refl; why = inl refl } };
+  request = record { open_yet = refl; may = record { nothing = refl; line = first_live Done; found = refl; why = inl refl } };
   gains = tt;
   calls = λ so. absurd (let no : false ≡ true = so in cc);
   table = tt;

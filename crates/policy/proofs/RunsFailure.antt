@@ -24,6 +24,8 @@ use Rattle.offering.specs.State.{Kept}
 use Rattle.receiving.specs.State.{}
 use Rattle.tables.specs.Rule.{IsEncoded}
 use Rattle.tables.proofs.Searching.{absent, absent_below}
+use Rattle.serving.specs.Lines.Answer.{Pending}
+use Rattle.serving.specs.Lines.Heard.{Partly}
 use Rattle.policy.specs.Moves.{Deed, Move}
 use Rattle.policy.specs.Moves.Deed.{Fails, Goes}
 use Rattle.policy.specs.Moves.Move.{Does, Settles}
@@ -58,7 +60,7 @@ abbrev pub reply_out : Noted
 reply_out = record { frame = frame 1 5 1 reply_block; note = Fields (bad ∷ empty ∷ []) }
 
 abbrev pub failed_deed : Deed
-failed_deed = Fails (UpFailed 1) 1 false
+failed_deed = Fails (UpFailed 1) 1 Partly
 
 abbrev pub reply_deed : Deed
 reply_deed = Goes reply_out (Block (bad ∷ empty ∷ []) true) (Final (reply_head BadAnswer) true) with_both
@@ -209,9 +211,9 @@ unfolding total_size
 failed_may = record {
   rests = λ e. forwarded_rest;
   conduct = record { allowed = record { open_yet = refl; turn = record { nothing = refl; none_begun = refl; goes_on = refl } }; fit = λ e. refl };
-  offer = (forwarded_rest.flushed, record { o = record { k = 1; route = 0; stream = 1 }; there = inl refl; is_given = refl; number = refl; active = refl; no_cause = refl }, refl);
+  offer = (forwarded_rest.flushed, record { is_given = refl; active = refl; no_cause = refl }, refl);
   in_turn = tt;
-  request = record { open_yet = refl; may = (record { nothing = refl; none_done = refl; goes_on = refl }, (record { k = 1; stream = 1; whole = false }, refl)) };
+  request = record { open_yet = refl; may = (record { nothing = refl; none_done = refl; goes_on = refl }, (record { k = 1; route = 0; stream = 1; answer = Pending }, refl)) };
   gains = tt;
   calls = λ so. absurd (let no : false ≡ true = so in cc);
   table = tt;

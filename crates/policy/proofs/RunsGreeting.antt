@@ -121,7 +121,7 @@ acked_may = record {
 -- ---- so the run is allowed, and rests
 
 pub greeted_allowed : AllAllowed setup greeted
-greeted_allowed = (((refl, ours_may), theirs_may), acked_may)
+greeted_allowed = (((tt, ours_may), theirs_may), acked_may)
 
 pub greeted_rests : RestsBehind setup greeted
 greeted_rests = record {

@@ -19,9 +19,9 @@ use Rattle.model.proofs.HeadLaws.{nothing_shown}
 use Rattle.model.proofs.OfferLaws.{one_shown}
 use Rattle.offering.specs.Outbox.{with_news}
 use Rattle.offering.specs.Shown.{Tells}
-use Rattle.model.specs.Idle.{IsAllHeard}
+use Rattle.serving.specs.Lines.Heard.{Finished}
 use Rattle.policy.specs.State.{tape_of}
-use Rattle.policy.specs.Answered.{IsWholeBy, IsAnswered}
+use Rattle.policy.specs.Answered.{IsHeardBy, IsAnswered}
 use Rattle.policy.proofs.Keeping.{IsKnown, clauses, in_turn}
 use Rattle.policy.proofs.RunsRequest.{forwarded}
 use Rattle.policy.proofs.RunsAnswer.{answer_text, news, heard_deed, answered, answered_leads, answered_rests}
@@ -50,11 +50,10 @@ told_so o (inl same) =
     subst (λ (p : Opened). Tells Whole (heard_by p (tape_of forwarded)) (ended_by p (tape_of forwarded)) (heard_by p (Happened (Up 1 answer_text) ∷ tape_of forwarded)) (ended_by p (Happened (Up 1 answer_text) ∷ tape_of forwarded)) (is_to_head (items known 1 (tape_of forwarded))) news) (sym same) tells
 told_so o (inr none) = absurd none
 
--- the response is whole
-whole_so : IsWholeBy known (tape_of forwarded) (Up 1 answer_text) true
+-- the response is whole, and no connection is kept
+whole_so : IsHeardBy known (tape_of forwarded) (Up 1 answer_text) Finished
 unfolding total_size
-whole_so o (inl same) number = subst (λ (p : Opened). IsAllHeard known (Happened (Up 1 answer_text) ∷ tape_of forwarded) p) (sym same) (texts.response, texts.answered)
-whole_so o (inr none) number = absurd none
+whole_so = ((texts.response, texts.answered), λ kept. let clash : false ≡ true = kept.keeps in cc)
 
 -- its body is no longer than may be kept
 not_long : IsTooLong known answer_text false → ⊥

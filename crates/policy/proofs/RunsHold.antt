@@ -1,16 +1,14 @@
 -- The clauses of the headline hold behind worked runs, by the law.
-use Rattle.std.proofs.Common.{false, [], ◌∷◌, length, refl, subst, inl, inr}
+use Rattle.std.proofs.Common.{false, [], ◌∷◌, length, refl}
 use Rattle.model.specs.Tables.{total_size}
 use Rattle.model.specs.Logs.Event.{UpFailed}
 use Rattle.model.specs.Known.{Known}
 use Rattle.model.specs.Headline.{ClausesHold, HoldsInTurn}
-use Rattle.model.specs.Openings.{Opened}
-use Rattle.model.specs.Tapes.Entry.{Happened}
 use Rattle.model.proofs.OfferLemmas.{nothing_complete}
-use Rattle.model.specs.Idle.{IsAllHeard}
 use Rattle.model.proofs.ExchangeLaws.{no_idle}
+use Rattle.serving.specs.Lines.Heard.{Partly}
 use Rattle.policy.specs.State.{tape_of}
-use Rattle.policy.specs.Answered.{IsWholeBy}
+use Rattle.policy.specs.Answered.{IsHeardBy}
 use Rattle.policy.proofs.Keeping.{IsKnown, clauses, in_turn}
 use Rattle.policy.proofs.RunsGreeting.{setup}
 use Rattle.policy.proofs.RunsRequest.{forwarded, forwarded_allowed, forwarded_rests}
@@ -46,10 +44,9 @@ abbrev pub known_failed : Known
 known_failed = record { setup = setup; failures = length (tape_of forwarded) ∷ [] }
 
 -- nothing was heard of the connection that failed
-none_whole : IsWholeBy known_failed (tape_of forwarded) (UpFailed 1) false
+none_whole : IsHeardBy known_failed (tape_of forwarded) (UpFailed 1) Partly
 unfolding total_size
-none_whole o (inl same) number whole = nothing_complete false false (subst (λ (p : Opened). IsAllHeard known_failed (Happened (UpFailed 1) ∷ tape_of forwarded) p) same whole)
-none_whole o (inr none) number whole = none
+none_whole whole = nothing_complete false false whole
 
 replied_known : IsKnown known_failed replied_to
 replied_known = record {

@@ -17,6 +17,7 @@ use Rattle.conduct.specs.Rows.Slot.{Live, Over}
 use Rattle.offering.specs.Outbox.{silent}
 use Rattle.offering.specs.Outbox.Part.{Final}
 use Rattle.receiving.specs.State.{}
+use Rattle.serving.specs.Lines.Answer.{Pending}
 use Rattle.tables.specs.Rule.{IsEncoded}
 use Rattle.tables.proofs.Requests.{decoded}
 use Rattle.tables.proofs.Example.{first_due}
@@ -176,9 +177,9 @@ unfolding total_size
 failed_may = record {
   rests = λ e. limited_rest;
   conduct = record { allowed = record { open_yet = refl; turn = record { nothing = refl; none_begun = refl; goes_on = refl } }; fit = λ e. refl };
-  offer = (limited_rest.flushed, record { o = record { k = 1; route = 0; stream = 1 }; there = inl refl; is_given = refl; number = refl; active = refl; no_cause = refl }, refl);
+  offer = (limited_rest.flushed, record { is_given = refl; active = refl; no_cause = refl }, refl);
   in_turn = tt;
-  request = record { open_yet = refl; may = (record { nothing = refl; none_done = refl; goes_on = refl }, (record { k = 1; stream = 1; whole = false }, refl)) };
+  request = record { open_yet = refl; may = (record { nothing = refl; none_done = refl; goes_on = refl }, (record { k = 1; route = 0; stream = 1; answer = Pending }, refl)) };
   gains = tt;
   calls = λ so. absurd (let no : false ≡ true = so in cc);
   table = tt;

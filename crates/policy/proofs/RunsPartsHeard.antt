@@ -27,9 +27,9 @@ use Rattle.model.proofs.OfferLaws.{one_shown}
 use Rattle.model.proofs.ResponseHeadReadings.{one_spelled, spelled_reads, none_at_final, one_front}
 use Rattle.offering.specs.Outbox.{with_news}
 use Rattle.offering.specs.Shown.{Tells}
-use Rattle.model.specs.Idle.{IsAllHeard}
+use Rattle.serving.specs.Lines.Heard.{Partly, Finished}
 use Rattle.policy.specs.State.{tape_of}
-use Rattle.policy.specs.Answered.{IsWholeBy, IsAnswered}
+use Rattle.policy.specs.Answered.{IsHeardBy, IsAnswered}
 use Rattle.policy.proofs.Keeping.{IsKnown, clauses, in_turn}
 use Rattle.policy.proofs.RunsBody.{first_given}
 use Rattle.policy.proofs.RunsStreaming.{streaming, waits}
@@ -137,13 +137,13 @@ unfolding total_size
 end_told o there = subst (AreTold (tape_of ended) (Up 1 (codes "i")) end_news) (sym (the_first o there)) end_tells
 
 -- the response isn't whole with the first part, and is with the second
-begin_not_whole : IsWholeBy known (tape_of waits) (Up 1 begin_text) false
+begin_not_whole : IsHeardBy known (tape_of waits) (Up 1 begin_text) Partly
 unfolding total_size
-begin_not_whole o there number whole = not_whole (subst (λ (p : Opened). IsAllHeard known (Happened (Up 1 begin_text) ∷ tape_of waits) p) (the_first o there) whole)
+begin_not_whole whole = not_whole whole
 
-end_whole : IsWholeBy known (tape_of ended) (Up 1 (codes "i")) true
+end_whole : IsHeardBy known (tape_of ended) (Up 1 (codes "i")) Finished
 unfolding total_size
-end_whole o there number = subst (λ (p : Opened). IsAllHeard known (Happened (Up 1 (codes "i")) ∷ tape_of ended) p) (sym (the_first o there)) (texts.response, texts.answered)
+end_whole = ((texts.response, texts.answered), λ kept. let clash : false ≡ true = kept.keeps in cc)
 
 -- nothing is too long where responses are passed on as they come
 never_long : (text : List ℕ) → IsTooLong known text false → ⊥

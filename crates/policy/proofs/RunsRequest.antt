@@ -82,7 +82,7 @@ unfolding total_size
 connected_may = record {
   rests = λ e. never e;
   conduct = record { allowed = record { open_yet = refl; turn = refl }; fit = tt };
-  offer = record { active = refl; has_items = refl; no_cause = refl; first = tt; next = refl };
+  offer = record { active = refl; has_items = refl; no_cause = refl; first = tt; counted = omega arith };
   in_turn = tt;
   request = record { open_yet = refl; may = record { stream = 1; text = request_text; stage = Whole; due = refl; next = refl } };
   gains = tt;
@@ -96,9 +96,9 @@ unfolding total_size
 forwarded_may = record {
   rests = λ e. never e;
   conduct = record { allowed = record { open_yet = refl; turn = refl }; fit = tt };
-  offer = refl;
+  offer = λ begins. absurd (let no : false ≡ true = begins in cc);
   in_turn = tt;
-  request = record { open_yet = refl; may = refl };
+  request = record { open_yet = refl; may = inl refl };
   gains = tt;
   calls = λ so. absurd (let no : false ≡ true = so in cc);
   table = tt;

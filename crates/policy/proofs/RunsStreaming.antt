@@ -21,6 +21,7 @@ use Rattle.conduct.specs.Book.{Desk}
 use Rattle.conduct.specs.Rows.{Row}
 use Rattle.conduct.specs.Rows.Slot.{Live}
 use Rattle.receiving.specs.State.{add, change, blank, paid, given, with_taken, kept_of}
+use Rattle.serving.specs.Lines.Answer.{Pending}
 use Rattle.serving.specs.State.Way.{Going}
 use Rattle.serving.specs.State.Due.{Nothing, ToOpen, ToSend}
 use Rattle.tables.proofs.Requests.{request, decoded, request_read}
@@ -128,7 +129,7 @@ at_asked = record at_greeted {
 abbrev pub at_opened : State
 at_opened = record at_asked {
   desk = desk true [] (row 0 65535) (first_given ∷ []) 1 65535 30;
-  requests = record { held = record { id = 1; way = Going 1 Chunking } ∷ []; live = record { k = 1; stream = 1; whole = false } ∷ []; due = ToSend 1 text; count = 1 };
+  requests = record { held = record { id = 1; way = Going 1 Chunking } ∷ []; live = record { k = 1; route = 0; stream = 1; answer = Pending } ∷ []; due = ToSend 1 text; count = 1 };
   windows = record at_asked.windows { row = change 1 (given 1) at_asked.windows.row };
 }
 
@@ -248,7 +249,7 @@ unfolding total_size
 opened_may = record {
   rests = λ e. never e;
   conduct = record { allowed = record { open_yet = refl; turn = refl }; fit = tt };
-  offer = record { active = refl; has_items = refl; no_cause = refl; first = tt; next = refl };
+  offer = record { active = refl; has_items = refl; no_cause = refl; first = tt; counted = omega arith };
   in_turn = tt;
   request = record { open_yet = refl; may = record { stream = 1; text = text; stage = Chunking; due = refl; next = refl } };
   gains = tt;
@@ -262,9 +263,9 @@ unfolding total_size
 put_may = record {
   rests = λ e. never e;
   conduct = record { allowed = record { open_yet = refl; turn = refl }; fit = tt };
-  offer = refl;
+  offer = λ begins. absurd (let no : false ≡ true = begins in cc);
   in_turn = tt;
-  request = record { open_yet = refl; may = refl };
+  request = record { open_yet = refl; may = inl refl };
   gains = tt;
   calls = λ so. absurd (let no : false ≡ true = so in cc);
   table = tt;
@@ -310,9 +311,9 @@ unfolding total_size
 passed_may = record {
   rests = λ e. never e;
   conduct = record { allowed = record { open_yet = refl; turn = refl }; fit = tt };
-  offer = refl;
+  offer = λ begins. absurd (let no : false ≡ true = begins in cc);
   in_turn = tt;
-  request = record { open_yet = refl; may = refl };
+  request = record { open_yet = refl; may = inl refl };
   gains = tt;
   calls = λ so. absurd (let no : false ≡ true = so in cc);
   table = tt;
@@ -324,7 +325,7 @@ passed_may = record {
 pub begun_leads : Stands streaming begun at_begun
 unfolding total_size
 begun_leads =
-    let none : Stands streaming [] at_start = record { is = refl; goes_on = refl; allowed = refl } in
+    let none : Stands streaming [] at_start = record { is = refl; goes_on = refl; allowed = tt } in
     let first = goes streaming [] at_start none ours at_ours refl refl ours_may in
     let second = goes streaming (Does ours ∷ []) at_ours first theirs at_theirs refl refl theirs_may in
     let third = goes streaming (Does theirs ∷ Does ours ∷ []) at_theirs second acked at_greeted refl refl acked_may in

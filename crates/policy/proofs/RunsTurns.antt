@@ -1,7 +1,7 @@
 -- Two responses take turns: behind the first GET a second one goes out on stream 3. The client's settings leave streams no window, so
 -- that an interim head goes out and the heads of both responses, and both bodies wait. Settings that raise the windows let them go:
 -- one octet of each stream in its turn, as the rule leaves it to the gateway how many go in a frame.
-use Rattle.std.proofs.Common.{◌≡◌, ℕ, Bool, true, false, List, [], ◌∷◌, length, Some, None, refl, pos}
+use Rattle.std.proofs.Common.{◌≡◌, ℕ, true, false, List, [], ◌∷◌, length, Some, None, refl, pos}
 use Rattle.std.specs.Prelude.{codes}
 use Rattle.model.specs.Messages.{Field}
 use Rattle.model.specs.Messages.Item.{Block, Content}
@@ -24,7 +24,9 @@ use Rattle.offering.specs.Outbox.Outbox.{Before, Behind}
 use Rattle.offering.specs.Outbox.Part.{Early, Final, Octets}
 use Rattle.offering.specs.State.{Kept}
 use Rattle.receiving.specs.State.{add, change, blank, given}
-use Rattle.serving.specs.State.{Live as Connection}
+use Rattle.serving.specs.Lines.{Answer, Line as Connection}
+use Rattle.serving.specs.Lines.Answer.{Done, Pending}
+use Rattle.serving.specs.Lines.Heard.{Finished, Partly}
 use Rattle.serving.specs.State.Due.{Nothing as NoneDue, ToOpen, ToSend}
 use Rattle.tables.proofs.Requests.{request, decoded}
 use Rattle.policy.specs.Moves.{Deed, Move}
@@ -114,13 +116,13 @@ abbrev pub both_asked : List Move
 both_asked = Settles ∷ Does (Acts (ToUp 2 request_text)) ∷ Does (Acts (Open 2 0)) ∷ Does asked_deed ∷ lowered
 
 abbrev pub hinted : List Move
-hinted = Does early_deed ∷ Does (Hears (Up 1 early_text) 1 early_news false) ∷ both_asked
+hinted = Does early_deed ∷ Does (Hears (Up 1 early_text) 1 early_news Partly) ∷ both_asked
 
 abbrev pub first_begun : List Move
 first_begun = Does first_deed ∷ Does (Acts (Close 1)) ∷ Does heard_deed ∷ hinted
 
 abbrev pub both_begun : List Move
-both_begun = Does second_deed ∷ Does (Acts (Close 2)) ∷ Does (Hears (Up 2 answer_text) 3 news true) ∷ first_begun
+both_begun = Does second_deed ∷ Does (Acts (Close 2)) ∷ Does (Hears (Up 2 answer_text) 3 news Finished) ∷ first_begun
 
 abbrev pub raised : List Move
 raised = Does ack_again ∷ Does raise ∷ both_begun
@@ -172,11 +174,11 @@ abbrev pub last_left : Outbox
 last_left = Behind (codes "i") (Some [])
 
 -- the open connections
-abbrev pub first_live : Bool → Connection
-first_live heard = record { k = 1; stream = 1; whole = heard }
+abbrev pub first_live : Answer → Connection
+first_live answer = record { k = 1; route = 0; stream = 1; answer = answer }
 
-abbrev pub second_live : Bool → Connection
-second_live heard = record { k = 2; stream = 3; whole = heard }
+abbrev pub second_live : Answer → Connection
+second_live answer = record { k = 2; route = 0; stream = 3; answer = answer }
 
 abbrev pub both_given : List Opened
 both_given = second_given ∷ first_given ∷ []
@@ -202,7 +204,7 @@ at_asked = record at_acked {
 abbrev pub at_opened : State
 at_opened = record at_asked {
   desk = desk_at 0 [] (get_row 3 ∷ get_row 1 ∷ []) both_given 3 65535 39;
-  requests = record at_asked.requests { live = second_live false ∷ first_live false ∷ []; due = ToSend 2 request_text; count = 2 };
+  requests = record at_asked.requests { live = second_live Pending ∷ first_live Pending ∷ []; due = ToSend 2 request_text; count = 2 };
   windows = record at_asked.windows { row = change 3 (given 2) at_asked.windows.row };
 }
 
@@ -232,11 +234,11 @@ at_hinted = record at_told {
 abbrev pub at_first_heard : State
 at_first_heard = record at_hinted {
   offers = record at_hinted.offers { kept = boxed 1 whole ∷ silent_one 3 ∷ [] };
-  requests = record at_hinted.requests { live = second_live false ∷ first_live true ∷ [] };
+  requests = record at_hinted.requests { live = second_live Pending ∷ first_live Done ∷ [] };
 }
 
 abbrev pub at_first_closed : State
-at_first_closed = record at_first_heard { requests = record at_first_heard.requests { live = second_live false ∷ [] } }
+at_first_closed = record at_first_heard { requests = record at_first_heard.requests { live = second_live Pending ∷ [] } }
 
 abbrev pub at_first_begun : State
 at_first_begun = record at_first_closed {
@@ -249,7 +251,7 @@ at_first_begun = record at_first_closed {
 abbrev pub at_second_heard : State
 at_second_heard = record at_first_begun {
   offers = record at_first_begun.offers { kept = boxed 1 body_left ∷ boxed 3 whole ∷ [] };
-  requests = record at_first_begun.requests { live = second_live true ∷ [] };
+  requests = record at_first_begun.requests { live = second_live Done ∷ [] };
 }
 
 abbrev pub at_second_closed : State

@@ -7,6 +7,8 @@ use Rattle.model.specs.Logs.Act.{Open, ToUp, Close}
 use Rattle.h1_writer.specs.Sending.Stage.{Whole}
 use Rattle.offering.specs.Outbox.Outbox.{Before}
 use Rattle.receiving.specs.State.{owing, blank, given}
+use Rattle.serving.specs.Lines.Answer.{Done, Pending}
+use Rattle.serving.specs.Lines.Heard.{Finished, Partly}
 use Rattle.policy.specs.Moves.{Deed}
 use Rattle.policy.specs.Moves.Deed.{Hears, Acts}
 use Rattle.policy.specs.Moves.Move.{Does}
@@ -17,8 +19,8 @@ use Rattle.policy.proofs.RunsGreeting.{setup, never, none_kept}
 use Rattle.policy.proofs.RunsRequest.{request_text, forwarded, first_route}
 use Rattle.policy.proofs.RunsAnswer.{answer_text, news, heard_deed, at_forwarded, forwarded_leads, forwarded_rest, each_one}
 use Rattle.policy.proofs.RunsWindow.{raise}
-use Rattle.policy.proofs.RunsBody.{first_given, silent_one, none_cut_of, AllPaid, change_paid, owes_no_more, forwarded_paid, get_read}
-use Rattle.policy.proofs.RunsTurns.{lower, ack_first, asked_deed, early_text, early_head, early_news, ack_again, early_deed, first_deed, second_deed, h_deed, i_deed, lowered, both_asked, hinted, first_begun, both_begun, raised, half_out, all_out, second_given, boxed, whole, body_left, last_left, first_live, second_live, at_lowered, at_acked, at_asked, at_opened, at_put, at_both_asked, at_told, at_hinted, at_first_heard, at_first_closed, at_first_begun, at_second_heard, at_second_closed, at_both_begun, at_raised, at_acked_again, at_first_half, at_half_out, at_first_out, at_both_out, at_all_out}
+use Rattle.policy.proofs.RunsBody.{silent_one, none_cut_of, AllPaid, change_paid, owes_no_more, forwarded_paid, get_read}
+use Rattle.policy.proofs.RunsTurns.{lower, ack_first, asked_deed, early_text, early_head, early_news, ack_again, early_deed, first_deed, second_deed, h_deed, i_deed, lowered, both_asked, hinted, first_begun, both_begun, raised, half_out, all_out, boxed, whole, body_left, last_left, first_live, second_live, at_lowered, at_acked, at_asked, at_opened, at_put, at_both_asked, at_told, at_hinted, at_first_heard, at_first_closed, at_first_begun, at_second_heard, at_second_closed, at_both_begun, at_raised, at_acked_again, at_first_half, at_half_out, at_first_out, at_both_out, at_all_out}
 use Rattle.policy.proofs.RunsTurnsBlocks.{early_encoded, first_encoded, second_encoded}
 
 -- ---- turns
@@ -156,7 +158,7 @@ unfolding total_size
 opened_may = record {
   rests = λ e. never e;
   conduct = record { allowed = record { open_yet = refl; turn = refl }; fit = tt };
-  offer = record { active = refl; has_items = refl; no_cause = refl; first = (λ e. let clash : 3 ≡ 1 = e in omega (arith, clash), tt); next = refl };
+  offer = record { active = refl; has_items = refl; no_cause = refl; first = (λ e. let clash : 3 ≡ 1 = e in omega (arith, clash), tt); counted = omega arith };
   in_turn = tt;
   request = record { open_yet = refl; may = record { stream = 3; text = request_text; stage = Whole; due = refl; next = refl } };
   gains = tt;
@@ -170,23 +172,23 @@ unfolding total_size
 put_may = record {
   rests = λ e. never e;
   conduct = record { allowed = record { open_yet = refl; turn = refl }; fit = tt };
-  offer = refl;
+  offer = λ begins. absurd (let no : false ≡ true = begins in cc);
   in_turn = tt;
-  request = record { open_yet = refl; may = refl };
+  request = record { open_yet = refl; may = inl refl };
   gains = tt;
   calls = λ so. absurd (let no : false ≡ true = so in cc);
   table = tt;
   window = record { opened = refl; its = refl; in_effect = λ e. cc };
 }
 
-told_may : MayDo setup (told_by at_both_asked) (told_by at_told) at_both_asked (Hears (Up 1 early_text) 1 early_news false)
+told_may : MayDo setup (told_by at_both_asked) (told_by at_told) at_both_asked (Hears (Up 1 early_text) 1 early_news Partly)
 unfolding total_size
 told_may = record {
   rests = λ e. both_asked_rest;
   conduct = record { allowed = record { open_yet = refl; turn = record { nothing = refl; none_begun = refl; goes_on = refl } }; fit = λ e. never e };
-  offer = (both_asked_rest.flushed, record { o = first_given; there = inr (inl refl); is_given = refl; number = refl; active = refl; no_cause = refl }, refl);
+  offer = (both_asked_rest.flushed, record { is_given = refl; active = refl; no_cause = refl }, refl);
   in_turn = tt;
-  request = record { open_yet = refl; may = (record { nothing = refl; none_done = refl; goes_on = refl }, tt, (first_live false, refl)) };
+  request = record { open_yet = refl; may = (record { nothing = refl; none_done = refl; goes_on = refl }, tt, (first_live Pending, refl)) };
   gains = tt;
   calls = λ so. absurd (let no : false ≡ true = so in cc);
   table = tt;
@@ -227,9 +229,9 @@ unfolding total_size
 first_heard_may = record {
   rests = λ e. hinted_rest;
   conduct = record { allowed = record { open_yet = refl; turn = record { nothing = refl; none_begun = refl; goes_on = refl } }; fit = λ e. never e };
-  offer = (hinted_rest.flushed, record { o = first_given; there = inr (inl refl); is_given = refl; number = refl; active = refl; no_cause = refl }, refl);
+  offer = (hinted_rest.flushed, record { is_given = refl; active = refl; no_cause = refl }, refl);
   in_turn = tt;
-  request = record { open_yet = refl; may = (record { nothing = refl; none_done = refl; goes_on = refl }, tt, (first_live false, refl)) };
+  request = record { open_yet = refl; may = (record { nothing = refl; none_done = refl; goes_on = refl }, tt, (first_live Pending, refl)) };
   gains = tt;
   calls = λ so. absurd (let no : false ≡ true = so in cc);
   table = tt;
@@ -243,7 +245,7 @@ first_closed_may = record {
   conduct = record { allowed = record { open_yet = refl; turn = refl }; fit = tt };
   offer = tt;
   in_turn = tt;
-  request = record { open_yet = refl; may = record { nothing = refl; live = first_live true; found = refl; why = inl refl } };
+  request = record { open_yet = refl; may = record { nothing = refl; line = first_live Done; found = refl; why = inl refl } };
   gains = tt;
   calls = λ so. absurd (let no : false ≡ true = so in cc);
   table = tt;
@@ -279,14 +281,14 @@ first_may = record {
   window = record { kind = refl; over_with_it = refl };
 }
 
-second_heard_may : MayDo setup (told_by at_first_begun) (told_by at_second_heard) at_first_begun (Hears (Up 2 answer_text) 3 news true)
+second_heard_may : MayDo setup (told_by at_first_begun) (told_by at_second_heard) at_first_begun (Hears (Up 2 answer_text) 3 news Finished)
 unfolding total_size
 second_heard_may = record {
   rests = λ e. first_begun_rest;
   conduct = record { allowed = record { open_yet = refl; turn = record { nothing = refl; none_begun = refl; goes_on = refl } }; fit = λ e. never e };
-  offer = (first_begun_rest.flushed, record { o = second_given; there = inl refl; is_given = refl; number = refl; active = refl; no_cause = refl }, refl);
+  offer = (first_begun_rest.flushed, record { is_given = refl; active = refl; no_cause = refl }, refl);
   in_turn = tt;
-  request = record { open_yet = refl; may = (record { nothing = refl; none_done = refl; goes_on = refl }, tt, (second_live false, refl)) };
+  request = record { open_yet = refl; may = (record { nothing = refl; none_done = refl; goes_on = refl }, tt, (second_live Pending, refl)) };
   gains = tt;
   calls = λ so. absurd (let no : false ≡ true = so in cc);
   table = tt;
@@ -300,7 +302,7 @@ second_closed_may = record {
   conduct = record { allowed = record { open_yet = refl; turn = refl }; fit = tt };
   offer = tt;
   in_turn = tt;
-  request = record { open_yet = refl; may = record { nothing = refl; live = second_live true; found = refl; why = inl refl } };
+  request = record { open_yet = refl; may = record { nothing = refl; line = second_live Done; found = refl; why = inl refl } };
   gains = tt;
   calls = λ so. absurd (let no : false ≡ true = so in cc);
   table = tt;
@@ -496,8 +498,8 @@ both_asked_leads =
 pub first_begun_leads : Stands setup first_begun at_first_begun
 unfolding total_size
 first_begun_leads =
-    let first = goes setup both_asked at_both_asked both_asked_leads (Hears (Up 1 early_text) 1 early_news false) at_told refl refl told_may in
-    let second = goes setup (Does (Hears (Up 1 early_text) 1 early_news false) ∷ both_asked) at_told first early_deed at_hinted refl refl early_may in
+    let first = goes setup both_asked at_both_asked both_asked_leads (Hears (Up 1 early_text) 1 early_news Partly) at_told refl refl told_may in
+    let second = goes setup (Does (Hears (Up 1 early_text) 1 early_news Partly) ∷ both_asked) at_told first early_deed at_hinted refl refl early_may in
     let third = goes setup hinted at_hinted second heard_deed at_first_heard refl refl first_heard_may in
     let fourth = goes setup (Does heard_deed ∷ hinted) at_first_heard third (Acts (Close 1)) at_first_closed refl refl first_closed_may in
     goes setup (Does (Acts (Close 1)) ∷ Does heard_deed ∷ hinted) at_first_closed fourth first_deed at_first_begun refl refl first_may
@@ -505,7 +507,7 @@ first_begun_leads =
 pub both_begun_leads : Stands setup both_begun at_both_begun
 unfolding total_size
 both_begun_leads =
-    let heard : Deed = Hears (Up 2 answer_text) 3 news true in
+    let heard : Deed = Hears (Up 2 answer_text) 3 news Finished in
     let first = goes setup first_begun at_first_begun first_begun_leads heard at_second_heard refl refl second_heard_may in
     let second = goes setup (Does heard ∷ first_begun) at_second_heard first (Acts (Close 2)) at_second_closed refl refl second_closed_may in
     goes setup (Does (Acts (Close 2)) ∷ Does heard ∷ first_begun) at_second_closed second second_deed at_both_begun refl refl second_may

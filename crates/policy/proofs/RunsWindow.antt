@@ -19,6 +19,7 @@ use Rattle.offering.specs.Outbox.Part.{Octets}
 use Rattle.offering.specs.State.{Kept}
 use Rattle.receiving.specs.State.{}
 use Rattle.tables.proofs.Requests.{decoded}
+use Rattle.serving.specs.Lines.Answer.{Done, Pending}
 use Rattle.policy.specs.Moves.{Deed, Move}
 use Rattle.policy.specs.Moves.Gain.{Nothing}
 use Rattle.policy.specs.Moves.Deed.{Takes, Goes, Sends, Acts}
@@ -123,7 +124,7 @@ last_left = record { id = 1; box = Behind (codes "i") (Some []); cut = false }
 abbrev pub at_heard : State
 at_heard = record at_acked {
   offers = record at_acked.offers { kept = whole ∷ [] };
-  requests = record at_acked.requests { live = record { k = 1; stream = 1; whole = true } ∷ [] };
+  requests = record at_acked.requests { live = record { k = 1; route = 0; stream = 1; answer = Done } ∷ [] };
 }
 
 abbrev pub at_closed : State
@@ -215,9 +216,9 @@ unfolding total_size
 heard_may = record {
   rests = λ e. acked_rest;
   conduct = record { allowed = record { open_yet = refl; turn = record { nothing = refl; none_begun = refl; goes_on = refl } }; fit = λ e. never e };
-  offer = (acked_rest.flushed, record { o = record { k = 1; route = 0; stream = 1 }; there = inl refl; is_given = refl; number = refl; active = refl; no_cause = refl }, refl);
+  offer = (acked_rest.flushed, record { is_given = refl; active = refl; no_cause = refl }, refl);
   in_turn = tt;
-  request = record { open_yet = refl; may = (record { nothing = refl; none_done = refl; goes_on = refl }, tt, (record { k = 1; stream = 1; whole = false }, refl)) };
+  request = record { open_yet = refl; may = (record { nothing = refl; none_done = refl; goes_on = refl }, tt, (record { k = 1; route = 0; stream = 1; answer = Pending }, refl)) };
   gains = tt;
   calls = λ so. absurd (let no : false ≡ true = so in cc);
   table = tt;
@@ -231,7 +232,7 @@ closed_may = record {
   conduct = record { allowed = record { open_yet = refl; turn = refl }; fit = tt };
   offer = tt;
   in_turn = tt;
-  request = record { open_yet = refl; may = record { nothing = refl; live = record { k = 1; stream = 1; whole = true }; found = refl; why = inl refl } };
+  request = record { open_yet = refl; may = record { nothing = refl; line = record { k = 1; route = 0; stream = 1; answer = Done }; found = refl; why = inl refl } };
   gains = tt;
   calls = λ so. absurd (let no : false ≡ true = so in cc);
   table = tt;

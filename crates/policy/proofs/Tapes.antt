@@ -1,22 +1,25 @@
 -- The moves of all concerns have one tape.
-use Rattle.std.proofs.Common.{◌≡◌, Bool, true, false, ◌==◌, List, [], ◌∷◌, ◌++◌, refl, ◌∙◌, ap}
+use Rattle.std.proofs.Common.{◌≡◌, ℕ, Bool, true, false, ◌==◌, List, [], ◌∷◌, ◌++◌, refl, ◌∙◌, ap}
 use Rattle.model.specs.Frames.{window_update_kind}
 use Rattle.model.specs.Setup.{Setup}
-use Rattle.model.specs.Logs.{Event}
+use Rattle.model.specs.Logs.{Event, Act}
+use Rattle.model.specs.Logs.Act.{Open, ToUp, Close, CloseClient}
+use Rattle.model.specs.Openings.{given, begins_another}
 use Rattle.model.specs.Logs.Event.{Client, ClientEnd, ClientTook, Up, UpEnd, UpFailed, UpTook}
 use Rattle.model.specs.Tapes.{Noted, Entry}
-use Rattle.model.specs.Tapes.Entry.{Happened, Sent}
+use Rattle.model.specs.Tapes.Entry.{Happened, Sent, Did}
 use Rattle.offering.specs.Rule as offers
 use Rattle.offering.specs.Sight.{Sight, sight_in}
 use Rattle.offering.specs.State as offering
 use Rattle.receiving.specs.Rule as windows
 use Rattle.receiving.specs.State as receiving
+use Rattle.serving.specs.Lines.{Heard}
 use Rattle.serving.specs.State as serving
 use Rattle.tables.specs.State as tables
 use Rattle.conduct.specs.Summary.{Summary}
-use Rattle.policy.specs.Moves.{Gain, Deed, Move, entry_of, offer_of, gained, failed, request_of, table_of, given_or_sent, window_of}
+use Rattle.policy.specs.Moves.{Gain, Deed, Move, entry_of, offer_of, gained, failed, idled, request_of, table_of, given_or_sent, sent_or_used, acted, window_of}
 use Rattle.policy.specs.Moves.Gain.{Nothing, Begins, Gathers, Passes, Drops}
-use Rattle.policy.specs.Moves.Deed.{Takes, Breaks, Notes, Hears, Fails, Sends, Goes, Acts}
+use Rattle.policy.specs.Moves.Deed.{Takes, Breaks, Notes, Hears, Fails, Idles, Sends, Goes, Acts}
 use Rattle.policy.specs.Moves.Move.{Does, Settles}
 use Rattle.policy.specs.State.{tape_of, summary_at, offers_of, turns_of, tables_of, windows_of}
 
@@ -26,8 +29,9 @@ pub offer_entry : (s u : Sight) (d : Deed) → offering.entry_of (offer_of s u d
 offer_entry s u (Takes noted next gain) = refl
 offer_entry s u (Breaks breach) = refl
 offer_entry s u (Notes event) = refl
-offer_entry s u (Hears event stream news whole) = refl
-offer_entry s u (Fails event stream whole) = refl
+offer_entry s u (Hears event stream news heard) = refl
+offer_entry s u (Fails event stream heard) = refl
+offer_entry s u (Idles event) = refl
 offer_entry s u (Sends noted next) = refl
 offer_entry s u (Goes noted item part next) = refl
 offer_entry s u (Acts act) = refl
@@ -39,21 +43,32 @@ gained_entry noted (Gathers item route text old body written stage) = refl
 gained_entry noted (Passes item k old written stage) = refl
 gained_entry noted (Drops item) = refl
 
-failed_entry : (event : Event) (whole : Bool) → serving.entry_of (failed event whole) ≡ Happened event
-failed_entry (Client piece) whole = refl
-failed_entry ClientEnd whole = refl
-failed_entry (ClientTook count) whole = refl
-failed_entry (Up k piece) whole = refl
-failed_entry (UpEnd k) whole = refl
-failed_entry (UpFailed k) whole = refl
-failed_entry (UpTook k count) whole = refl
+failed_entry : (event : Event) (heard : Heard) → serving.entry_of (failed event heard) ≡ Happened event
+failed_entry (Client piece) heard = refl
+failed_entry ClientEnd heard = refl
+failed_entry (ClientTook count) heard = refl
+failed_entry (Up k piece) heard = refl
+failed_entry (UpEnd k) heard = refl
+failed_entry (UpFailed k) heard = refl
+failed_entry (UpTook k count) heard = refl
+
+idled_entry : (event : Event) → serving.entry_of (idled event) ≡ Happened event
+idled_entry (Client piece) = refl
+idled_entry ClientEnd = refl
+idled_entry (ClientTook count) = refl
+idled_entry (Up k []) = refl
+idled_entry (Up k (octet ∷ octets)) = refl
+idled_entry (UpEnd k) = refl
+idled_entry (UpFailed k) = refl
+idled_entry (UpTook k count) = refl
 
 pub request_entry : (d : Deed) → serving.entry_of (request_of d) ≡ entry_of d
 request_entry (Takes noted next gain) = gained_entry noted gain
 request_entry (Breaks breach) = refl
 request_entry (Notes event) = refl
-request_entry (Hears event stream news whole) = refl
-request_entry (Fails event stream whole) = failed_entry event whole
+request_entry (Hears event stream news heard) = refl
+request_entry (Fails event stream heard) = failed_entry event heard
+request_entry (Idles event) = idled_entry event
 request_entry (Sends noted next) = refl
 request_entry (Goes noted item part next) = refl
 request_entry (Acts act) = refl
@@ -62,8 +77,9 @@ pub table_entry : (s : Summary) (d : Deed) → tables.entry_of (table_of s d) �
 table_entry s (Takes noted next gain) = refl
 table_entry s (Breaks breach) = refl
 table_entry s (Notes event) = refl
-table_entry s (Hears event stream news whole) = refl
-table_entry s (Fails event stream whole) = refl
+table_entry s (Hears event stream news heard) = refl
+table_entry s (Fails event stream heard) = refl
+table_entry s (Idles event) = refl
 table_entry s (Sends noted next) = refl
 table_entry s (Goes noted item part next) = refl
 table_entry s (Acts act) = refl
@@ -72,15 +88,27 @@ given_entry : (b : Bool) (s u : Sight) (noted : Noted) → receiving.entries_of 
 given_entry true s u noted = refl
 given_entry false s u noted = refl
 
+-- octets to an upstream, and any other act
+used_entry : (b : Bool) (k : ℕ) (octets : List ℕ) → receiving.entries_of (sent_or_used b k octets) ≡ Did (ToUp k octets) ∷ []
+used_entry true k octets = refl
+used_entry false k octets = refl
+
+acted_entry : (s : Sight) (act : Act) → receiving.entries_of (acted s act) ≡ Did act ∷ []
+acted_entry s (Open k route) = refl
+acted_entry s (ToUp k octets) = used_entry (begins_another (given k s.given) s.last octets) k octets
+acted_entry s (Close k) = refl
+acted_entry s CloseClient = refl
+
 pub window_entry : (s u : Sight) (d : Deed) → receiving.entries_of (window_of s u d) ≡ entry_of d ∷ []
 window_entry s u (Takes noted next gain) = refl
 window_entry s u (Breaks breach) = refl
 window_entry s u (Notes event) = refl
-window_entry s u (Hears event stream news whole) = refl
-window_entry s u (Fails event stream whole) = refl
+window_entry s u (Hears event stream news heard) = refl
+window_entry s u (Fails event stream heard) = refl
+window_entry s u (Idles event) = refl
 window_entry s u (Sends noted next) = given_entry (noted.frame.kind == window_update_kind) s u noted
 window_entry s u (Goes noted item part next) = given_entry (noted.frame.kind == window_update_kind) s u noted
-window_entry s u (Acts act) = refl
+window_entry s u (Acts act) = acted_entry s act
 
 -- ---- of all
 

@@ -70,3 +70,9 @@ pub record MayFail (behind : Summary) (s : State) (event : Event) (stream : ℕ)
   pub of_upstream : MayBreakOff event
   pub about : is_active_in (about_in (told_by s) (Happened event)) (told_by s) ≡ true
   pub caused : (sight_in behind).cause stream ≡ Some BadAnswer
+
+-- It is of an idle connection, and admitted.
+pub record MayIdle (s : State) (event : Event) : Type 0 where
+  pub admitted : may_come (gates_in (told_by s) s.requests) (rooms_in (told_by s) s) event ≡ true
+  pub of_upstream : MayBreakOff event
+  pub kept : IsKept s.requests (upstream_of event)

@@ -1,6 +1,6 @@
 -- The end of the connection: behind the entry that ends it goes the farewell that is owed, then a close for each open upstream
 -- connection, then that for the client.
-use Rattle.std.specs.Prelude.{◌≡◌, ℕ, true, false, List, [], ◌∷◌, ◌++◌, reverse, Option, Some, None}
+use Rattle.std.specs.Prelude.{◌≡◌, true, false, List, [], ◌∷◌, ◌++◌, reverse, Option, Some, None}
 use Rattle.model.specs.Frames.{Frame, goaway, enhance_your_calm}
 use Rattle.model.specs.Setup.{Setup}
 use Rattle.model.specs.Tables.{Table}
@@ -15,7 +15,7 @@ use Rattle.conduct.specs.Summary.{Summary}
 use Rattle.conduct.specs.Judging.{is_crowded_in}
 use Rattle.conduct.specs.Owing.{fault_in, highest_in, opened_after, code_of_farewell_in}
 use Rattle.conduct.specs.Quiet.{noted_of}
-use Rattle.serving.specs.State.{Live}
+use Rattle.serving.specs.Lines.{Line}
 use Rattle.serving.specs.State.Due.{Nothing}
 use Rattle.tables.specs.Rule as tables
 use Rattle.tables.specs.Verdicts.{verdict_in}
@@ -45,12 +45,12 @@ abbrev pub farewell_of : State → Deed → List Move
 farewell_of s d = sent_all s.tables.encoding.table (farewell_by s d)
 
 -- each of these connections is closed, in their order
-abbrev pub closes_of : List Live → List Move
+abbrev pub closes_of : List Line → List Move
 closes_of [] = []
-closes_of (live ∷ lives) = closes_of lives ++ Does (Acts (Close live.k)) ∷ []
+closes_of (line ∷ lines) = closes_of lines ++ Does (Acts (Close line.k)) ∷ []
 
 -- open connections by rising number; they are kept with the newest first
-abbrev pub by_number : State → List Live
+abbrev pub by_number : State → List Line
 by_number s = reverse s.requests.live
 
 -- the moves behind a deed that ends the connection
@@ -62,9 +62,9 @@ abbrev pub frames_sent : List Frame → List Entry
 frames_sent [] = []
 frames_sent (frame ∷ frames) = frames_sent frames ++ Sent (noted_of frame) ∷ []
 
-abbrev pub closed_all : List Live → List Entry
+abbrev pub closed_all : List Line → List Entry
 closed_all [] = []
-closed_all (live ∷ lives) = closed_all lives ++ Did (Close live.k) ∷ []
+closed_all (line ∷ lines) = closed_all lines ++ Did (Close line.k) ∷ []
 
 abbrev pub ending_on_tape : State → Deed → List Entry
 ending_on_tape s d = Did CloseClient ∷ (closed_all (by_number s) ++ (frames_sent (farewell_by s d) ++ entry_of d ∷ []))

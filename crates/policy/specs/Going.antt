@@ -1,5 +1,5 @@
 -- What is left to show of a move that puts something out.
-use Rattle.std.specs.Prelude.{◌≡◌, ℕ, true, false, not, ◌&&◌, List, [], ◌∷◌, None}
+use Rattle.std.specs.Prelude.{◌≡◌, ℕ, true, false, not, ◌&&◌, ◌⊎◌, List, [], ◌∷◌, None}
 use Rattle.model.specs.Frames.{window_update_kind}
 use Rattle.model.specs.Logs.{Act}
 use Rattle.model.specs.Logs.Act.{Open, ToUp, Close, CloseClient}
@@ -11,7 +11,7 @@ use Rattle.model.specs.ErrorClause.{is_passing, is_calming}
 use Rattle.conduct.specs.Judging.{is_crowded_in}
 use Rattle.conduct.specs.Owing.{is_rightly_sent_in, must_end_in}
 use Rattle.conduct.specs.Turn.{rest_of}
-use Rattle.offering.specs.Rule.{OpensNext}
+use Rattle.offering.specs.Rule.{BeginsNext}
 use Rattle.offering.specs.Sight.{sight_in}
 use Rattle.receiving.specs.Policy as windows
 use Rattle.receiving.specs.Rule.{GivesAll}
@@ -51,7 +51,7 @@ pub record GivesBack (s : State) (noted : Noted) : Type 0 where
 -- A connection may be opened, and given to the stream of the last frame: nothing is owed, and it is due.
 pub record Opens (s : State) (k route : ℕ) : Type 0 where
   pub nothing : s.desk.queue ≡ []
-  pub opens : OpensNext (sight_in (told_by s)) k
+  pub begins : BeginsNext (sight_in (told_by s)) k
   pub due : requests.MayOpen s.requests k route
   pub window : windows.MayOpen (rooms_in (told_by s) s) k
 
@@ -60,6 +60,13 @@ pub record Puts (setup : Setup) (s : State) (k : ℕ) (octets : List ℕ) : Type
   pub nothing : s.desk.queue ≡ []
   pub due : s.requests.due ≡ ToSend k octets
   pub window : windows.MayPut setup.passing (gates_in (told_by s) s.requests) (rooms_in (told_by s) s) k
+
+-- Octets go to an idle one that is used again, and given to the stream of the last frame: nothing is owed, and they are due to it.
+pub record Uses (setup : Setup) (s : State) (k : ℕ) (octets : List ℕ) : Type 0 where
+  pub nothing : s.desk.queue ≡ []
+  pub begins : BeginsNext (sight_in (told_by s)) k
+  pub due : requests.MayUse s.requests k octets
+  pub window : windows.MayUse setup.passing (gates_in (told_by s) s.requests) (rooms_in (told_by s) s) k octets
 
 -- An upstream connection may be closed: nothing is owed, and it is done with.
 pub record Closes (s : State) (k : ℕ) : Type 0 where
@@ -75,6 +82,6 @@ pub record Shuts (s : State) : Type 0 where
 -- The act may be done.
 abbrev pub Acts : Setup → State → Act → Type 0
 Acts setup s (Open k route) = Opens s k route
-Acts setup s (ToUp k octets) = Puts setup s k octets
+Acts setup s (ToUp k octets) = Puts setup s k octets ⊎ Uses setup s k octets
 Acts setup s (Close k) = Closes s k
 Acts setup s CloseClient = Shuts s

@@ -1,11 +1,13 @@
 -- The moves of a gateway: entries of the tape, each with what is decided there. From them and from what is told at a point
 -- follows the move of each concern.
-use Rattle.std.specs.Prelude.{ℕ, Bool, true, false, not, ◌&&◌, ◌==◌, List, is_none}
+use Rattle.std.specs.Prelude.{ℕ, Bool, true, false, not, ◌&&◌, ◌==◌, List, [], ◌∷◌, is_none}
 use Rattle.model.specs.Messages.{Field, Item}
 use Rattle.model.specs.Tables.{Table}
 use Rattle.model.specs.Frames.{window_update_kind}
 use Rattle.model.specs.Logs.{Event, Act}
-use Rattle.model.specs.Logs.Event.{UpFailed}
+use Rattle.model.specs.Logs.Event.{Up, UpEnd, UpFailed}
+use Rattle.model.specs.Logs.Act.{ToUp}
+use Rattle.model.specs.Openings.{given, begins_another}
 use Rattle.model.specs.Tapes.{Noted, Breach, Entry}
 use Rattle.model.specs.Tapes.Entry.{Came, Breached, Happened, Sent, Did}
 use Rattle.model.specs.Deliveries.{Delivery}
@@ -19,6 +21,8 @@ use Rattle.offering.specs.Rule.{change_by}
 use Rattle.offering.specs.State as offering
 use Rattle.receiving.specs.Rule.{is_over_by}
 use Rattle.receiving.specs.State as receiving
+use Rattle.serving.specs.Lines.{Heard}
+use Rattle.serving.specs.Lines.Heard.{Keepable, Finished}
 use Rattle.serving.specs.Told.{Told}
 use Rattle.serving.specs.State as serving
 use Rattle.tables.specs.Verdicts.{verdict_in}
@@ -42,10 +46,12 @@ pub data Deed : Type 0 where
   Breaks : (breach : Breach) → Deed
   -- an event of no upstream's answer
   Notes : (event : Event) → Deed
-  -- a stream's upstream tells these news of its response, which is whole with them or isn't
-  Hears : (event : Event) → (stream : ℕ) → (news : Delivery) → (whole : Bool) → Deed
+  -- a stream's upstream tells these news of its response; whether that is whole with them, and its connection may be kept
+  Hears : (event : Event) → (stream : ℕ) → (news : Delivery) → (heard : Heard) → Deed
   -- its answer fails
-  Fails : (event : Event) → (stream : ℕ) → (whole : Bool) → Deed
+  Fails : (event : Event) → (stream : ℕ) → (heard : Heard) → Deed
+  -- something comes of an idle connection
+  Idles : (event : Event) → Deed
   -- a frame to the client that brings no stream an item, and the table that its block leaves
   Sends : (noted : Noted) → (next : Table) → Deed
   -- one that brings a stream the next part of its response
@@ -63,15 +69,16 @@ abbrev pub entry_of : Deed → Entry
 entry_of (Takes noted next gain) = Came noted
 entry_of (Breaks breach) = Breached breach
 entry_of (Notes event) = Happened event
-entry_of (Hears event stream news whole) = Happened event
-entry_of (Fails event stream whole) = Happened event
+entry_of (Hears event stream news heard) = Happened event
+entry_of (Fails event stream heard) = Happened event
+entry_of (Idles event) = Happened event
 entry_of (Sends noted next) = Sent noted
 entry_of (Goes noted item part next) = Sent noted
 entry_of (Acts act) = Did act
 
 -- whether an upstream's answer fails with it
 abbrev pub fails_in : Deed → Bool
-fails_in (Fails event stream whole) = true
+fails_in (Fails event stream heard) = true
 fails_in _ = false
 
 -- whether it is something that comes in
@@ -89,8 +96,9 @@ abbrev pub offer_of : Sight → Sight → Deed → offering.Move
 offer_of before behind (Takes noted next gain) = offering.Move.Takes noted (change_by before behind noted.frame.id)
 offer_of before behind (Breaks breach) = offering.Move.Breaks breach
 offer_of before behind (Notes event) = offering.Move.Notes event
-offer_of before behind (Hears event stream news whole) = offering.Move.Hears event stream news
-offer_of before behind (Fails event stream whole) = offering.Move.Fails event stream
+offer_of before behind (Hears event stream news heard) = offering.Move.Hears event stream news
+offer_of before behind (Fails event stream heard) = offering.Move.Fails event stream
+offer_of before behind (Idles event) = offering.Move.Idles event
 offer_of before behind (Sends noted next) = offering.Move.Sends noted
 offer_of before behind (Goes noted item part next) = offering.Move.Goes noted item part (not (behind.active noted.frame.id))
 offer_of before behind (Acts act) = offering.Move.Acts act
@@ -104,16 +112,25 @@ gained noted (Passes item k old written stage) = serving.Move.Passes noted item 
 gained noted (Drops item) = serving.Move.Drops noted item
 
 -- an answer that fails, by its event
-abbrev pub failed : Event → Bool → serving.Move
-failed (UpFailed k) whole = serving.Move.Fails k
-failed event whole = serving.Move.Hears event whole
+abbrev pub failed : Event → Heard → serving.Move
+failed (UpFailed k) heard = serving.Move.Fails k
+failed event heard = serving.Move.Hears event heard
+
+-- what comes of an idle connection: no octets leave it idle, and any, or its end, finish it
+abbrev pub idled : Event → serving.Move
+idled (Up k []) = serving.Move.Hears (Up k []) Keepable
+idled (Up k (octet ∷ octets)) = serving.Move.Hears (Up k (octet ∷ octets)) Finished
+idled (UpEnd k) = serving.Move.Hears (UpEnd k) Finished
+idled (UpFailed k) = serving.Move.Fails k
+idled event = serving.Move.Notes event
 
 abbrev pub request_of : Deed → serving.Move
 request_of (Takes noted next gain) = gained noted gain
 request_of (Breaks breach) = serving.Move.Breaks breach
 request_of (Notes event) = serving.Move.Notes event
-request_of (Hears event stream news whole) = serving.Move.Hears event whole
-request_of (Fails event stream whole) = failed event whole
+request_of (Hears event stream news heard) = serving.Move.Hears event heard
+request_of (Fails event stream heard) = failed event heard
+request_of (Idles event) = idled event
 request_of (Sends noted next) = serving.Move.Sends noted
 request_of (Goes noted item part next) = serving.Move.Sends noted
 request_of (Acts act) = serving.Move.Acts act
@@ -122,8 +139,9 @@ abbrev pub table_of : Summary → Deed → tables.Move
 table_of s (Takes noted next gain) = tables.Move.Takes noted (verdict_in s noted.frame) next
 table_of s (Breaks breach) = tables.Move.Breaks breach
 table_of s (Notes event) = tables.Move.Hears event
-table_of s (Hears event stream news whole) = tables.Move.Hears event
-table_of s (Fails event stream whole) = tables.Move.Hears event
+table_of s (Hears event stream news heard) = tables.Move.Hears event
+table_of s (Fails event stream heard) = tables.Move.Hears event
+table_of s (Idles event) = tables.Move.Hears event
 table_of s (Sends noted next) = tables.Move.Sends noted s.block_out next
 table_of s (Goes noted item part next) = tables.Move.Sends noted s.block_out next
 table_of s (Acts act) = tables.Move.Acts act
@@ -133,16 +151,26 @@ abbrev pub given_or_sent : Bool → Sight → Sight → Noted → receiving.Move
 given_or_sent true before behind noted = receiving.Move.Gives noted
 given_or_sent false before behind noted = receiving.Move.Sends noted (is_over_by before behind noted.frame.id)
 
+-- octets to an upstream by whether they begin another exchange, and any other act
+abbrev pub sent_or_used : Bool → ℕ → List ℕ → receiving.Move
+sent_or_used true k octets = receiving.Move.Uses k octets
+sent_or_used false k octets = receiving.Move.Acts (ToUp k octets)
+
+abbrev pub acted : Sight → Act → receiving.Move
+acted before (ToUp k octets) = sent_or_used (begins_another (given k before.given) before.last octets) k octets
+acted before act = receiving.Move.Acts act
+
 abbrev pub window_of : Sight → Sight → Deed → receiving.Move
 window_of before behind (Takes noted next gain) =
     receiving.Move.Takes noted (not (before.opened noted.frame.id) && behind.opened noted.frame.id) (is_over_by before behind noted.frame.id)
 window_of before behind (Breaks breach) = receiving.Move.Breaks breach
 window_of before behind (Notes event) = receiving.Move.Hears event
-window_of before behind (Hears event stream news whole) = receiving.Move.Hears event
-window_of before behind (Fails event stream whole) = receiving.Move.Hears event
+window_of before behind (Hears event stream news heard) = receiving.Move.Hears event
+window_of before behind (Fails event stream heard) = receiving.Move.Hears event
+window_of before behind (Idles event) = receiving.Move.Hears event
 window_of before behind (Sends noted next) = given_or_sent (noted.frame.kind == window_update_kind) before behind noted
 window_of before behind (Goes noted item part next) = given_or_sent (noted.frame.kind == window_update_kind) before behind noted
-window_of before behind (Acts act) = receiving.Move.Acts act
+window_of before behind (Acts act) = acted before act
 
 -- what is told of streams and of the end
 abbrev pub told_in : Summary → Told

@@ -108,7 +108,7 @@ pub record MayDo (setup : Setup) (before behind : Summary) (state : State) (d : 
 
 -- Each move might come where it came; the newest stands first. The effect of what came last may be over at any time.
 abbrev pub AllAllowed : Setup → List Move → Type 0
-AllAllowed setup [] = setup.keep ≡ false
+AllAllowed setup [] = Unit {0}
 AllAllowed setup (Does d ∷ run) = AllAllowed setup run × MayDo setup (summary_at setup run) (summary_at setup (Does d ∷ run)) (state_of setup run) d
 AllAllowed setup (Settles ∷ run) = AllAllowed setup run
 

@@ -13,6 +13,7 @@ use Rattle.offering.specs.State as offering
 use Rattle.receiving.specs.Policy.{Gates}
 use Rattle.receiving.specs.Rule as windows
 use Rattle.receiving.specs.State as receiving
+use Rattle.serving.specs.Lines.{line_of}
 use Rattle.serving.specs.State as serving
 use Rattle.tables.specs.State as tables
 use Rattle.policy.specs.Moves.{Move, conduct_of, offer_of, request_of, table_of, window_of, told_in}
@@ -30,7 +31,7 @@ pub record State : Type 0 where
 -- what is told of connections and streams: which are open, which are active, which is the last frame's, how many octets for the client
 -- aren't taken, and whether it was closed
 abbrev pub gates_in : Summary → serving.State → Gates
-gates_in s requests = record { is_up = λ k. is_some (serving.live_of k requests.live); given = λ k. given k s.given; live = active_in s; last = s.last; untaken = s.untaken; closed = s.closed }
+gates_in s requests = record { is_up = λ k. is_some (line_of k requests.live); given = λ k. given k s.given; live = active_in s; last = s.last; untaken = s.untaken; closed = s.closed }
 
 -- ---- moves, the newest first
 

@@ -9,24 +9,27 @@
 //! - `AllAllowed`: each move came by the rule, which whoever performs a move shows there;
 //! - `AreKnown`: what is known of failures is what the moves say; `conduct::errors_hold` gives it of what they say themselves;
 //! - `AreAnswered`: what moves say of upstreams' answers is so, by the contract of the reader that the octets go through
-//!   (`read_answers`);
+//!   (`read_answers`) and by what is kept ([`answers_are_told`], [`idle_connections_are_told`]);
 //! - `RestsBehind`: the step ends where the gateway rests.
 #![tactic(auto)]
 
-ghost use Rattle.std.specs.Prelude.{◌≡◌, ◌<◌, ◌≤◌, ◌^◌, ℕ, length, Bool, true, false, ◌++◌, List, ◌∷◌, reverse};
+ghost use Rattle.std.specs.Prelude.{◌≡◌, ◌<◌, ◌≤◌, ◌^◌, ℕ, length, Bool, true, false, ◌++◌, List, ◌∷◌, reverse, Some, None};
 ghost use Rattle.model.specs.Setup.{Setup};
 ghost use Rattle.model.specs.Setup.Passing.{Streaming};
 ghost use Rattle.model.specs.StreamStates.{most_active};
 ghost use Rattle.model.specs.Logs.{Event, Act, Step};
-ghost use Rattle.model.specs.Logs.Event.{ClientEnd};
+ghost use Rattle.model.specs.Logs.Event.{ClientEnd, Up, UpEnd, UpFailed};
 ghost use Rattle.model.specs.Tables.{Table};
 ghost use Rattle.model.specs.Courses.{upstream_of};
 ghost use Rattle.receiving.specs.Policy.{may_come};
 ghost use Rattle.model.specs.Admission.{is_open};
 ghost use Rattle.model.specs.Openings.{exchange_on};
-ghost use Rattle.model.specs.Available.{ended_by};
+ghost use Rattle.model.specs.Available.{heard_by, ended_by};
+ghost use Rattle.model.specs.Idle.{is_asked_for_head, IsAllHeard, IsIdle};
+ghost use Rattle.model.specs.Responses.{IsPlainlyBad};
 ghost use Rattle.model.specs.Known.{Known};
-ghost use Rattle.model.specs.Tapes.{Noted, Breach, is_closed, EndsWithClose};
+ghost use Rattle.model.specs.Tapes.{Noted, Breach, Entry, is_closed, EndsWithClose};
+ghost use Rattle.model.specs.Tapes.Entry.{Happened};
 ghost use Rattle.model.specs.Failures.{AreJudged};
 ghost use Rattle.model.specs.Headline.{ClausesHold, HoldsInTurn, Headline};
 ghost use Rattle.model.specs.Synchrony.{InStep};
@@ -34,15 +37,19 @@ ghost use Rattle.model.specs.Deliveries.{Delivery};
 ghost use Rattle.conduct.specs.Rule.{AreKnown};
 ghost use Rattle.offering.specs.Held.{FitRooms};
 ghost use Rattle.serving.specs.Held.{held_octets};
+ghost use Rattle.serving.specs.Lines.{Line, line_of, Heard};
+ghost use Rattle.serving.specs.Lines.Answer.{Pending, Idle};
+ghost use Rattle.serving.specs.Lines.Heard.{Keepable, Finished};
+ghost use Rattle.serving.specs.State.{Held, held_of};
 ghost use Rattle.policy.specs.Moves.{Gain, Deed, Move};
 ghost use Rattle.policy.specs.Moves.Gain.{Nothing};
 ghost use Rattle.policy.specs.Moves.Move.{Does};
-ghost use Rattle.policy.specs.Moves.Deed.{Takes, Breaks, Notes, Hears, Fails, Sends};
+ghost use Rattle.policy.specs.Moves.Deed.{Takes, Breaks, Notes, Hears, Fails, Idles, Sends};
 ghost use Rattle.policy.specs.State.{State, gates_in, conducts, tape_of, state_of};
 ghost use Rattle.policy.specs.Rule.{rooms_in, MayDo, AllAllowed, RestsBehind};
-ghost use Rattle.policy.specs.Answered.{IsAnswered, AreAnswered};
+ghost use Rattle.policy.specs.Answered.{IsHeardBy, LeavesIdle, IsAnswered, AreAnswered};
 ghost use Rattle.policy.specs.Steps.{told_by, told_behind, next, MayGoOn, Leads, Stands, AreAnsweredBy};
-ghost use Rattle.policy.specs.Coming.{IsReady, MayTake, MayHear, MayFail};
+ghost use Rattle.policy.specs.Coming.{IsReady, MayTake, MayHear, MayFail, MayIdle};
 ghost use Rattle.policy.specs.Going.{IsOwedNext, GivesBack, Acts};
 ghost use Rattle.policy.specs.Held.{held_on_connection, held_for, held_in_all, most_on_connection, most_for_stream, most_in_all};
 ghost use Rattle.policy.specs.Ending.{IsFatal, IsCrowded, calming_of, ending_of, Ends};
@@ -79,13 +86,14 @@ pub fn states_lead()
 
 /// Where the gateway rests and its connection goes on, what comes in has its move: octets that depart from the preface or a length that
 /// is too long; an event of no upstream's answer that may come by its numbers; a frame, where its note is right, and what it gains
-/// is so; an answer of an open connection, that fails or doesn't.
+/// is so; an answer of an open connection, that fails or doesn't; and what comes of an idle one.
 pub fn inputs_have_moves()
     ensures breach { (setup : Setup) (s : State) (breach : Breach) → IsReady s → MayDo setup (told_by s) (told_behind setup s (Breaks breach)) s (Breaks breach) }
     ensures event { (setup : Setup) (s : State) (event : Event) → IsReady s → upstream_of event ≡ 0 → may_come (gates_in (told_by s) s.requests) (rooms_in (told_by s) s) event ≡ true → MayDo setup (told_by s) (told_behind setup s (Notes event)) s (Notes event) }
     ensures frame { (setup : Setup) (s : State) (noted : Noted) (next : Table) (gain : Gain) → IsReady s → MayTake setup (told_behind setup s (Takes noted next gain)) s noted next gain → MayDo setup (told_by s) (told_behind setup s (Takes noted next gain)) s (Takes noted next gain) }
-    ensures hears { (setup : Setup) (s : State) (event : Event) (stream : ℕ) (news : Delivery) (whole : Bool) → IsReady s → MayHear (told_behind setup s (Hears event stream news whole)) s event stream → MayDo setup (told_by s) (told_behind setup s (Hears event stream news whole)) s (Hears event stream news whole) }
-    ensures fails { (setup : Setup) (s : State) (event : Event) (stream : ℕ) (whole : Bool) → IsReady s → MayFail (told_behind setup s (Fails event stream whole)) s event stream → MayDo setup (told_by s) (told_behind setup s (Fails event stream whole)) s (Fails event stream whole) }
+    ensures hears { (setup : Setup) (s : State) (event : Event) (stream : ℕ) (news : Delivery) (heard : Heard) → IsReady s → MayHear (told_behind setup s (Hears event stream news heard)) s event stream → MayDo setup (told_by s) (told_behind setup s (Hears event stream news heard)) s (Hears event stream news heard) }
+    ensures fails { (setup : Setup) (s : State) (event : Event) (stream : ℕ) (heard : Heard) → IsReady s → MayFail (told_behind setup s (Fails event stream heard)) s event stream → MayDo setup (told_by s) (told_behind setup s (Fails event stream heard)) s (Fails event stream heard) }
+    ensures idles { (setup : Setup) (s : State) (event : Event) → IsReady s → MayIdle s event → MayDo setup (told_by s) (told_behind setup s (Idles event)) s (Idles event) }
 {}
 
 /// What goes out has its move where it is due: a frame that is owed next; octets given back, all that is owed on their id; an act. The
@@ -100,6 +108,25 @@ pub fn outputs_have_moves()
 /// a connection that goes on, as the reader's contract has it.
 pub fn open_connections_go_on()
     ensures { (known : Known) (run : List Move) → AreKnown known (conducts run) → AllAllowed known.setup run → AreAnswered known run → RestsBehind known.setup run → (k : ℕ) → is_open k (tape_of run) ≡ true → ended_by (exchange_on k (tape_of run)) (tape_of run) ≡ false }
+{}
+
+/// What is heard of a connection (`Hears`) where its response is whole: it may be kept behind octets that leave it open, where nothing is held of its
+/// stream's request (`keepable`), and else not: where something is, it wasn't sent whole (`in_part`); the octets don't leave it open
+/// (`not_left`), as none do where connections aren't kept; or its upstream ends it (`ended`). What leaves it open is told by its reader.
+pub fn answers_are_told()
+    ensures keepable { (known : Known) (run : List Move) → AreKnown known (conducts run) → AllAllowed known.setup run → AreAnswered known run → RestsBehind known.setup run → (k : ℕ) (line : Line) → line_of k (state_of known.setup run).requests.live ≡ Some line → line.answer ≡ Pending → held_of line.stream (state_of known.setup run).requests.held ≡ None → (piece : List ℕ) → LeavesIdle known (tape_of run) k piece → IsHeardBy known (tape_of run) (Up k piece) Keepable }
+    ensures in_part { (known : Known) (run : List Move) → AreKnown known (conducts run) → AllAllowed known.setup run → AreAnswered known run → RestsBehind known.setup run → (k : ℕ) (line : Line) → line_of k (state_of known.setup run).requests.live ≡ Some line → (held : Held) → held_of line.stream (state_of known.setup run).requests.held ≡ Some held → (event : Event) → upstream_of event ≡ k → IsAllHeard known (Happened event ∷ tape_of run) (exchange_on k (tape_of run)) → IsHeardBy known (tape_of run) event Finished }
+    ensures not_left { (known : Known) (t : List Entry) (k : ℕ) (piece : List ℕ) → IsAllHeard known (Happened (Up k piece) ∷ t) (exchange_on k t) → (LeavesIdle known t k piece → ⊥) → IsHeardBy known t (Up k piece) Finished }
+    ensures ended { (known : Known) (t : List Entry) (k : ℕ) → IsAllHeard known (Happened (UpEnd k) ∷ t) (exchange_on k t) → IsHeardBy known t (UpEnd k) Finished }
+{}
+
+/// A connection that is kept as idle is idle. So what moves say of its events (`Idles`) is so: of its end and its failure with no more, and of
+/// octets where they have no fault that has to be noticed at once.
+pub fn idle_connections_are_told()
+    ensures idle { (known : Known) (run : List Move) → AreKnown known (conducts run) → AllAllowed known.setup run → AreAnswered known run → (k : ℕ) (line : Line) → line_of k (state_of known.setup run).requests.live ≡ Some line → line.answer ≡ Idle → IsIdle known (tape_of run) k }
+    ensures octets { (known : Known) (t : List Entry) (k : ℕ) (piece : List ℕ) → IsIdle known t k → (IsPlainlyBad (heard_by (exchange_on k t) t ++ piece) (is_asked_for_head known (exchange_on k t) t) → ⊥) → IsAnswered known t (Idles (Up k piece)) }
+    ensures ended { (known : Known) (t : List Entry) (k : ℕ) → IsIdle known t k → IsAnswered known t (Idles (UpEnd k)) }
+    ensures failed { (known : Known) (t : List Entry) (k : ℕ) → IsIdle known t k → IsAnswered known t (Idles (UpFailed k)) }
 {}
 
 /// The end of the connection comes by the rule, and leads to rest. Where the gateway rests and its connection goes on, and then the

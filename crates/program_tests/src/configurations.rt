@@ -37,6 +37,24 @@ fn defaults(rt: HostRuntime) -> Result<(), Fail> {
     assert!(rt; matches!(config.passing, Passing::Whole));
     assert_eq!(rt; config.max_body, 1_048_576);
     assert_eq!(rt; config.max_response, 1_048_576);
+    assert!(rt; !config.keep);
+    Ok(())
+}
+
+#[test]
+fn connections_that_are_kept(rt: HostRuntime) -> Result<(), Fail> {
+    assert!(rt; taken(&rt, rt.alloc(), "keep = true").keep);
+    assert!(rt; !taken(&rt, rt.alloc(), "keep = false").keep);
+    assert_bad(&rt, rt.alloc(), "keep = \"true\"", Key::Keep);
+    assert_bad(&rt, rt.alloc(), "keep = 1", Key::Keep);
+    // It is judged behind the maxima, and before the routes.
+    assert_bad(
+        &rt,
+        rt.alloc(),
+        "keep = 1\nmax_response = -1",
+        Key::MaxResponse,
+    );
+    assert_bad(&rt, rt.alloc(), "route = 1\nkeep = 1", Key::Keep);
     Ok(())
 }
 

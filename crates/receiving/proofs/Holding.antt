@@ -1,7 +1,6 @@
 -- What is held of a response's body is what the outbox of its stream has.
-use Rattle.std.proofs.Common.{◌≡◌, ℕ, ◌+◌, ◌≤◌, Bool, true, false, ◌==◌, ◌||◌, List, [], ◌∷◌, ◌++◌, length, refl, sym, ap, subst, ◌∙◌, arith, length-append, if◌then◌else◌, inl, inr}
+use Rattle.std.proofs.Common.{◌≡◌, ℕ, ◌+◌, Bool, true, false, ◌==◌, ◌||◌, List, [], ◌∷◌, ◌++◌, length, refl, sym, ap, subst, ◌∙◌, arith, length-append, if◌then◌else◌, inl, inr}
 use Rattle.std.specs.Prelude.{Option, Some, None, is_some, ◌&&◌}
-use Rattle.std.proofs.lemmas.Bool.{eq-eqb, ne_eqb}
 use Rattle.std.proofs.lemmas.Bool.Decides.{eqb_tells}
 use Rattle.model.specs.Messages.{Item}
 use Rattle.model.specs.Messages.Item.{Block, Content}
@@ -11,20 +10,15 @@ use Rattle.model.specs.Tapes.{Note, Noted, Entry, sent}
 use Rattle.model.specs.Tapes.Note.{NoBlock, Fields, Undecodable, Unread}
 use Rattle.model.specs.Decoding.{Partial, completed}
 use Rattle.model.specs.Streams.{block_items, frame_items}
-use Rattle.model.specs.Openings.{Opened, exchanges, given, exchange_on, AreNumbered}
+use Rattle.model.specs.Openings.{Opened, exchange_on}
 use Rattle.model.specs.Deliveries.{End, Delivery, ReadsAs, AreInterims, AreContents, IsAnsweredBy}
-use Rattle.model.specs.Available.{heard_by, items_on, IsIn}
-use Rattle.model.specs.Responses.{Seen}
+use Rattle.model.specs.Available.{heard_by, items_on}
 use Rattle.model.specs.Known.{Known}
-use Rattle.model.specs.Courses.{items}
-use Rattle.model.specs.Offers.{is_to_head}
 use Rattle.model.specs.WindowsOnTape.{is_on, is_any, data_length, data_octets}
 use Rattle.offering.specs.Outbox.{Outbox, offered_by, Fits}
 use Rattle.offering.specs.Outbox.Outbox.{Before, Behind, Over}
 use Rattle.model.specs.Responses.{IsComplete}
-use Rattle.model.specs.Idle.{MayBeKept, IsIdle}
-use Rattle.model.proofs.DeliveryReadings.{one_number}
-use Rattle.model.proofs.ExchangeLaws.{newest_in}
+use Rattle.model.specs.Idle.{is_asked_for_head, IsIdle}
 use Rattle.receiving.specs.Rooms.{HoldsBody}
 use Rattle.receiving.specs.Held.{body_in, AreUnpadded, HasOutbox}
 use Rattle.receiving.proofs.Tapes.{none_completed, data_on}
@@ -133,45 +127,24 @@ body_parts items read (Before interims head body whole) r f = let none : length 
 body_parts items read (Behind body whole) r f = length-append read.body body
 body_parts items read Over r f = omega arith
 
--- a connection's number is at most how many were opened
-number_within : (o : Opened) (os : List Opened) → AreNumbered os → IsIn o os → o.k ≤ length os
-number_within o [] numbered there = absurd there
-number_within o (p ∷ os) numbered (inl same) = let is : o.k ≡ p.k = ap (λ (x : Opened). x.k) same in let at = numbered.0 in omega (arith, is, at)
-number_within o (p ∷ os) numbered (inr there) = let le = number_within o os numbered.1 there in omega (arith, le)
-
--- the stream that a connection was given to
-given_is : (o : Opened) (k : ℕ) (os : List Opened) → AreNumbered os → IsIn o os → o.k ≡ k → given k os ≡ o.stream
-given_is o k [] numbered there is = absurd there
-given_is o k (p ∷ os) numbered (inl same) is = ap (λ b. if b then p.stream else given k os) (eq-eqb p.k k (ap (λ (x : Opened). x.k) (sym same) ∙ is)) ∙ ap (λ (x : Opened). x.stream) (sym same)
-given_is o k (p ∷ os) numbered (inr there) is =
-    let le = number_within o os numbered.1 there in
-    ap (λ b. if b then p.stream else given k os) (ne_eqb p.k k (λ e. let at = numbered.0 in omega (arith, e, at, le, is))) ∙ given_is o k os numbered.1 there is
-
-module _ (known : Known) (t : List Entry) (k : ℕ) (box : Outbox) (numbered : AreNumbered (exchanges t)) (h : HasOutbox known t k box) (bare : AreUnpadded (sent t)) where
-  -- the connection's stream
-  stream_is : given k (exchanges t) ≡ h.o.stream
-  stream_is = given_is h.o k (exchanges t) numbered h.there h.number
-
-  newest : exchange_on k t ≡ h.o
-  newest = one_number (exchanges t) (exchange_on k t) h.o numbered (newest_in k (exchanges t) h.o h.there h.number) h.there (sym h.number)
+module _ (known : Known) (t : List Entry) (k : ℕ) (box : Outbox) (h : HasOutbox known t k box) (bare : AreUnpadded (sent t)) where
+  abbrev o : Opened
+  o = exchange_on k t
 
   -- a connection of which the response isn't whole isn't idle
   pub busy : IsIdle known t k → ⊥
-  busy i =
-      let kept : MayBeKept known t h.o = subst (MayBeKept known t) newest i.kept in
-      h.begun.not_whole (subst (λ (b : Bool). IsComplete (heard_by h.o t) b (is_to_head (items known h.o.stream t))) (sym kept.not_ended) (kept.answered.response, kept.answered.reads))
+  busy i = h.begun.not_whole (subst (λ (b : Bool). IsComplete (heard_by o t) b (is_asked_for_head known o t)) (sym i.kept.not_ended) (i.kept.answered.response, i.kept.answered.reads))
 
   -- So much is held of the response.
-  pub holds_body : HoldsBody known (exchange_on k t) t (length (body_in box))
+  pub holds_body : HoldsBody known o t (length (body_in box))
   holds_body =
-      let all = body_parts (items_on h.o.stream (sent t)) h.read box h.reads h.fits in
+      let all = body_parts (items_on o.stream (sent t)) h.read box h.reads h.fits in
       let said : length (offered_by h.read box).body ≡ length h.begun.octets = ap (λ (d : Delivery). length d.body) h.begun.says in
-      let counted : length h.read.body ≡ data_octets (is_on h.o.stream) (sent t) = sym (read_contents (items_on h.o.stream (sent t)) h.read h.reads) ∙ sent_contents h.o.stream (sent t) bare in
-      let same : data_octets (is_on (given k (exchanges t))) (sent t) ≡ data_octets (is_on h.o.stream) (sent t) = ap (λ (n : ℕ). data_octets (is_on n) (sent t)) stream_is in
+      let counted : length h.read.body ≡ data_octets (is_on o.stream) (sent t) = sym (read_contents (items_on o.stream (sent t)) h.read h.reads) ∙ sent_contents o.stream (sent t) bare in
       record {
         interims = h.begun.interims;
         head = h.begun.head;
         octets = h.begun.octets;
-        seen = subst (λ (o : Opened). Seen (heard_by o t) (is_to_head (items known o.stream t)) h.begun.interims h.begun.head h.begun.octets) (sym newest) h.begun.seen;
-        is = omega (arith, all, said, counted, same);
+        seen = h.begun.seen;
+        is = omega (arith, all, said, counted);
       }

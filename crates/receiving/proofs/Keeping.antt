@@ -14,8 +14,8 @@ use Rattle.model.specs.WindowsOnTape.{is_on, is_any, data_length, data_octets, i
 use Rattle.model.specs.WindowClause.{waiting}
 use Rattle.receiving.specs.Marks.{total, waiting_of, Rise, IsAbove}
 use Rattle.receiving.specs.State.{exchange, Row, State, start, held, fresh_of, blank, given, waits, reached}
-use Rattle.receiving.proofs.Queues.{pop_later, popped_above, popped_rise, higher, pushed_rise, pushed_waiting, pushed_above}
-use Rattle.receiving.proofs.Tapes.{none_waits, waits_alike}
+use Rattle.receiving.proofs.Queues.{none_above, pop_later, popped_above, popped_rise, higher, pushed_rise, pushed_waiting, pushed_above}
+use Rattle.receiving.proofs.Tapes.{most_waits, none_waits, waits_alike}
 
 -- What waits on the tape is what the queue says, however many octets more are taken; and what came with the last frame, however
 -- many more are put out while its effect isn't over.
@@ -171,6 +171,21 @@ module _ (t : List Entry) (id : ℕ) (r : Row) (took out : ℕ → ℕ) (settled
     above = subst (λ (n : ℕ). IsAbove n r.queue) (tr ∙ sym tk) w.above;
     rise = subst (λ (n : ℕ). Rise 0 r.queue n) (orr ∙ sym ok) w.rise;
   }
+
+  -- the stream gets a connection that is kept, before any of its DATA
+  pub waits_used : (k : ℕ) (octets : List ℕ) (out' : ℕ → ℕ) → data_octets (is_on id) (came t) ≡ 0 → fresh ≡ 0 → out r.k ≡ 0 → Waits (Did (ToUp k octets) ∷ t) id (given k r) took out' settled fresh
+  waits_used k octets out' bare none orr = record {
+    counts = λ n put le cond.
+        let few = most_waits (exchange id k) n t put in
+        let queued : waiting_of n r.queue ≡ 0 = ap (λ ms. waiting_of n ms) empty in
+        let zero = none_if (nat_lt n put) fresh none in
+        omega (arith, few, bare, queued, zero);
+    above = subst (λ ms. IsAbove (took k) ms) (sym empty) tt;
+    rise = subst (λ ms. Rise 0 ms (out' k)) (sym empty) (omega arith);
+  }
+    where
+      empty : r.queue ≡ []
+      empty = none_above (took r.k) (out r.k) r.queue (omega (arith, orr)) w.rise w.above
 
 -- a new stream
 pub waits_new : (t : List Entry) (noted : Noted) (id : ℕ) (took out : ℕ → ℕ) (more : ℕ) → length (sent_up 0 t) ≡ 0 → data_length (is_on id) noted.frame ≡ more → Waits (Came noted ∷ t) id blank took out false more

@@ -17,7 +17,7 @@ use Rattle.model.specs.WindowsOnTape.{is_on, is_any, data_octets, increments, ro
 use Rattle.model.specs.WindowClause.{taken, waiting, kept, kept_in_all, GivesBack, GivesNoMore, GoesBack}
 use Rattle.receiving.specs.Marks.{total}
 use Rattle.receiving.specs.State.{exchange, fresh_of, State, Move, start, held, after, entries_of, tape_of, state_of}
-use Rattle.receiving.specs.State.Move.{Takes, Breaks, Hears, Settles, Gives, Sends, Acts}
+use Rattle.receiving.specs.State.Move.{Takes, Breaks, Hears, Settles, Gives, Sends, Uses, Acts}
 use Rattle.receiving.specs.Policy.{Holds, AreAllowed, IsPaid, IsOwed}
 use Rattle.receiving.proofs.Queues.{all_wait}
 use Rattle.receiving.proofs.Sums.{is_among, same_sum}
@@ -26,7 +26,7 @@ use Rattle.receiving.proofs.Counting.{Counting, counting_start, counting_step}
 use Rattle.receiving.proofs.Keeping.{Waits, StandsIn, Keeping, keeping_start, no_fresh}
 use Rattle.receiving.proofs.Incoming.{keeping_old, keeping_new, keeping_broken, keeping_event}
 use Rattle.receiving.proofs.Outgoing.{keeping_settled, keeping_given, keeping_sent}
-use Rattle.receiving.proofs.Acting.{keeping_put, keeping_opened, keeping_closed, keeping_shut}
+use Rattle.receiving.proofs.Acting.{keeping_put, keeping_used, keeping_opened, keeping_closed, keeping_shut}
 
 -- All that holds behind each move.
 pub record Receiving (passing : Passing) (t : List Entry) (s : State) : Type 0 where
@@ -50,6 +50,7 @@ keeping_step passing t s (Hears event) c h may = keeping_event passing t s c h m
 keeping_step passing t s Settles c h may = keeping_settled passing t s c h
 keeping_step passing t s (Gives noted) c h may = keeping_given passing t s noted h may
 keeping_step passing t s (Sends noted over) c h may = keeping_sent passing t s noted h over may
+keeping_step passing t s (Uses k octets) c h may = keeping_used passing t s c h k octets may.0 may.1
 keeping_step passing t s (Acts (Open k route)) c h may = keeping_opened passing t s c h k route may
 keeping_step passing t s (Acts (ToUp k octets)) c h may = keeping_put passing t s c h k octets may
 keeping_step passing t s (Acts (Close k)) c h may = keeping_closed passing t s c h k
@@ -74,6 +75,7 @@ no_more_step passing t s (Hears event) h g may = g
 no_more_step passing t s Settles h g may = g
 no_more_step passing t s (Gives noted) h g may = (λ kind. no_more_given passing t (after passing s (Gives noted)) noted h kind (noted.frame.id == 0) (λ other. (subst (λ b. IsOwed t s noted.frame b) other may.owed).0), g)
 no_more_step passing t s (Sends noted over) h g may = (λ kind. absurd (let no : true ≡ false = sym (eq-eqb noted.frame.kind window_update_kind kind) ∙ may.kind in cc), g)
+no_more_step passing t s (Uses k octets) h g may = g
 no_more_step passing t s (Acts act) h g may = g
 
 -- Each move that is allowed keeps the invariant.

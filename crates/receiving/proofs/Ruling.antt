@@ -9,7 +9,7 @@ use Rattle.model.specs.Logs.Act.{Open, ToUp, Close, CloseClient}
 use Rattle.model.specs.Setup.{Passing}
 use Rattle.model.specs.Decoding.{completed}
 use Rattle.model.specs.Known.{Known}
-use Rattle.model.specs.Openings.{last_stream}
+use Rattle.model.specs.Openings.{last_stream, begins_another}
 use Rattle.model.specs.Lifetimes.{opened, opens_by, is_opened, active, is_active}
 use Rattle.model.specs.WindowClause.{GivesBack, GoesBack}
 use Rattle.model.specs.Headline.{HoldsInTurn}
@@ -19,9 +19,9 @@ use Rattle.model.proofs.ActiveLaws.{active_sent}
 use Rattle.offering.proofs.Ruling.{opened_by_it}
 use Rattle.offering.proofs.Allowing.{first_right}
 use Rattle.receiving.specs.State.{State, Move, entries_of, tape_of, after, state_of, kept_of, with_told}
-use Rattle.receiving.specs.State.Move.{Takes, Breaks, Hears, Settles, Gives, Sends, Acts}
+use Rattle.receiving.specs.State.Move.{Takes, Breaks, Hears, Settles, Gives, Sends, Uses, Acts}
 use Rattle.receiving.specs.Policy.{IsOpened, MayTake, IsOwed, MayGive, MaySend, Holds, AreAllowed, IsPaid, KeepRooms, Gates, AreGates, gates_on, MayDo}
-use Rattle.receiving.specs.Rule.{is_over_by, TakesFrame, OwesAll, GivesAll, SendsOther, MayCome, OwesNothing, Seen, moves_of, sight_of, gates_of, state_with, state_behind, AllMayCome, AreRight, OwesSome}
+use Rattle.receiving.specs.Rule.{is_over_by, TakesFrame, OwesAll, GivesAll, SendsOther, MayCome, OwesNothing, Seen, moves_of, sight_of, gates_of, state_with, state_behind, AllMayCome, IsTold, AreRight, OwesSome}
 use Rattle.receiving.proofs.Admitting.{come_same}
 use Rattle.receiving.proofs.Resting.{receiving, gives_back_at_rest, gives_no_more, shared_goes_back, own_goes_back, Receiving}
 use Rattle.receiving.proofs.Withholding.{holds_back}
@@ -115,24 +115,34 @@ acts_by passing t s gates told (Close k) may = may
 acts_by passing t s gates told CloseClient may = may
 
 -- What the rule by states allows is allowed by the tape.
-allowed_by : (known : Known) (passing : Passing) (t : List Entry) (s : State) (gates : Gates) (before behind : Sight) (m : Move) → AreGates t gates → IsRightOf known t before → IsRightOf known (entries_of m ++ t) behind → MayCome passing gates before behind s m → Holds passing t s m
-allowed_by known passing t s gates before behind (Takes noted opens over) told right now may = takes_by known t s noted before behind right opens over now may
-allowed_by known passing t s gates before behind (Breaks breach) told right now may = may.settled
-allowed_by known passing t s gates before behind (Hears event) told right now may = record { settled = may.1.settled; admitted = sym (come_same t s gates told event) ∙ may.1.admitted }
-allowed_by known passing t s gates before behind Settles told right now may = tt
-allowed_by known passing t s gates before behind (Gives noted) told right now may = gives_by known t s noted before behind right may
-allowed_by known passing t s gates before behind (Sends noted over) told right now may = sends_by known t s noted before behind right over now may
-allowed_by known passing t s gates before behind (Acts act) told right now may = acts_by passing t s gates told act may
+allowed_by : (known : Known) (passing : Passing) (t : List Entry) (s : State) (gates : Gates) (before behind : Sight) (m : Move) → AreGates t gates → IsRightOf known t before → IsRightOf known (entries_of m ++ t) behind → IsTold passing t m → MayCome passing gates before behind s m → Holds passing t s m
+allowed_by known passing t s gates before behind (Takes noted opens over) told right now asks may = takes_by known t s noted before behind right opens over now may
+allowed_by known passing t s gates before behind (Breaks breach) told right now asks may = may.settled
+allowed_by known passing t s gates before behind (Hears event) told right now asks may = record { settled = may.1.settled; admitted = sym (come_same t s gates told event) ∙ may.1.admitted }
+allowed_by known passing t s gates before behind Settles told right now asks may = tt
+allowed_by known passing t s gates before behind (Gives noted) told right now asks may = gives_by known t s noted before behind right may
+allowed_by known passing t s gates before behind (Sends noted over) told right now asks may = sends_by known t s noted before behind right over now may
+allowed_by known passing t s gates before behind (Uses k octets) told right now asks may = (
+  record {
+    opened = sym (told.is_up k) ∙ may.opened;
+    begins = ap (λ n. begins_another n (last_stream t) octets) (sym (told.given k)) ∙ ap (λ n. begins_another (gates.given k) n octets) (sym told.last) ∙ may.begins;
+    active = may.active;
+    first = may.first;
+    in_effect = may.in_effect;
+  },
+  asks,
+)
+allowed_by known passing t s gates before behind (Acts act) told right now asks may = acts_by passing t s gates told act may
 
 -- what is read last is right
-last_right : (known : Known) (run : List Seen) → AreRight known run → IsRightOf known (tape_of (moves_of run)) (sight_of run)
-last_right known [] right = first_right known
-last_right known (x ∷ run) right = right.1
+last_right : (known : Known) (passing : Passing) (run : List Seen) → AreRight known passing run → IsRightOf known (tape_of (moves_of run)) (sight_of run)
+last_right known passing [] right = first_right known
+last_right known passing (x ∷ run) right = right.1
 
 -- and so is what is told
-last_told : (known : Known) (run : List Seen) → AreRight known run → AreGates (tape_of (moves_of run)) (gates_of run)
-last_told known [] right = record { is_up = λ k. refl; given = λ k. refl; live = refl; last = refl; untaken = refl; closed = refl }
-last_told known (x ∷ run) right = right.2
+last_told : (known : Known) (passing : Passing) (run : List Seen) → AreRight known passing run → AreGates (tape_of (moves_of run)) (gates_of run)
+last_told known passing [] right = record { is_up = λ k. refl; given = λ k. refl; live = refl; last = refl; untaken = refl; closed = refl }
+last_told known passing (x ∷ run) right = right.2
 
 -- So a run is allowed, and the state of what is kept and told is that of its moves.
 record Follows (passing : Passing) (run : List Seen) : Type 0 where
@@ -144,12 +154,12 @@ told_again : (t : List Entry) (s : State) (gates : Gates) → AreGates t gates �
 told_again t s gates told live last =
     ap (λ (ids : List ℕ). with_told ids gates.last (kept_of s)) (told.live ∙ sym live) ∙ ap (λ (id : ℕ). with_told s.live id (kept_of s)) (told.last ∙ sym last)
 
-follows : (known : Known) (passing : Passing) (run : List Seen) → AllMayCome passing run → AreRight known run → Follows passing run
+follows : (known : Known) (passing : Passing) (run : List Seen) → AllMayCome passing run → AreRight known passing run → Follows passing run
 follows known passing [] may right = record { allowed = tt; same = refl }
 follows known passing (x ∷ run) may right =
     let before : Follows passing run = follows known passing run may.0 right.0 in
     let here : MayCome passing (gates_of run) (sight_of run) x.sight (state_of passing (moves_of run)) x.move = subst (λ (s : State). MayCome passing (gates_of run) (sight_of run) x.sight s x.move) before.same may.1 in
-    let all : AreAllowed passing (moves_of (x ∷ run)) = (before.allowed, allowed_by known passing (tape_of (moves_of run)) (state_of passing (moves_of run)) (gates_of run) (sight_of run) x.sight x.move (last_told known run right.0) (last_right known run right.0) right.1 here) in
+    let all : AreAllowed passing (moves_of (x ∷ run)) = (before.allowed, allowed_by known passing (tape_of (moves_of run)) (state_of passing (moves_of run)) (gates_of run) (sight_of run) x.sight x.move (last_told known passing run right.0) (last_right known passing run right.0) right.1 right.3 here) in
     let kept = receiving passing (moves_of (x ∷ run)) all in
     record {
       allowed = all;
@@ -158,10 +168,10 @@ follows known passing (x ∷ run) may right =
           ∙ told_again (tape_of (moves_of (x ∷ run))) (state_of passing (moves_of (x ∷ run))) x.gates right.2 kept.keeping.live kept.counting.last;
     }
 
-pub all_allowed : (known : Known) (passing : Passing) (run : List Seen) → AllMayCome passing run → AreRight known run → AreAllowed passing (moves_of run)
+pub all_allowed : (known : Known) (passing : Passing) (run : List Seen) → AllMayCome passing run → AreRight known passing run → AreAllowed passing (moves_of run)
 all_allowed known passing run may right = (follows known passing run may right).allowed
 
-pub state_same : (known : Known) (passing : Passing) (run : List Seen) → AllMayCome passing run → AreRight known run → state_behind passing run ≡ state_of passing (moves_of run)
+pub state_same : (known : Known) (passing : Passing) (run : List Seen) → AllMayCome passing run → AreRight known passing run → state_behind passing run ≡ state_of passing (moves_of run)
 state_same known passing run may right = (follows known passing run may right).same
 
 -- nothing is owed by the tape where nothing is by the states
@@ -169,14 +179,14 @@ paid_by : (known : Known) (t : List Entry) (s : State) (sight : Sight) → IsRig
 paid_by known t s sight right none = record { settled = none.settled; shared = none.shared; own = λ stream on open_yet. none.own stream (right.active stream ∙ on) (right.ended stream on ∙ open_yet) }
 
 -- Where nothing is owed each receiving window is as at first, but for what is kept.
-pub run_gives_back : (known : Known) (run : List Seen) → AllMayCome known.setup.passing run → AreRight known run → OwesNothing (sight_of run) (state_behind known.setup.passing run) → GivesBack known (tape_of (moves_of run))
+pub run_gives_back : (known : Known) (run : List Seen) → AllMayCome known.setup.passing run → AreRight known known.setup.passing run → OwesNothing (sight_of run) (state_behind known.setup.passing run) → GivesBack known (tape_of (moves_of run))
 run_gives_back known run may right none =
     gives_back_at_rest known (moves_of run) (all_allowed known known.setup.passing run may right)
-    (paid_by known (tape_of (moves_of run)) (state_of known.setup.passing (moves_of run)) (sight_of run) (last_right known run right)
+    (paid_by known (tape_of (moves_of run)) (state_of known.setup.passing (moves_of run)) (sight_of run) (last_right known known.setup.passing run right)
     (subst (OwesNothing (sight_of run)) (state_same known known.setup.passing run may right) none))
 
 -- Where octets are owed they go back.
-pub run_goes_back : (known : Known) (run : List Seen) → AllMayCome known.setup.passing run → AreRight known run → OwesSome (sight_of run) (state_behind known.setup.passing run) → GoesBack known.setup.passing (tape_of (moves_of run))
+pub run_goes_back : (known : Known) (run : List Seen) → AllMayCome known.setup.passing run → AreRight known known.setup.passing run → OwesSome (sight_of run) (state_behind known.setup.passing run) → GoesBack known.setup.passing (tape_of (moves_of run))
 run_goes_back known run may right owes = by some.settled some.some
   where
     passing : Passing
@@ -192,7 +202,7 @@ run_goes_back known run may right owes = by some.settled some.some
     all = receiving passing (moves_of run) (all_allowed known passing run may right)
 
     read : IsRightOf known t (sight_of run)
-    read = last_right known run right
+    read = last_right known known.setup.passing run right
 
     by : (state_of passing (moves_of run)).count ≡ 0
         → (0 < (state_of passing (moves_of run)).debt) ⊎ ((stream : ℕ) × ((sight_of run).active stream ≡ true) × ((sight_of run).ended stream ≡ false) × (0 < ((state_of passing (moves_of run)).row stream).debt)) → GoesBack passing t
@@ -204,7 +214,7 @@ run_goes_back known run may right owes = by some.settled some.some
 -- ---- before each thing that comes in
 
 -- what is given back, and no more
-keeps : (known : Known) (run : List Seen) → AllMayCome known.setup.passing run → AreRight known run → OwesNothing (sight_of run) (state_behind known.setup.passing run) → KeepRooms known (tape_of (moves_of run))
+keeps : (known : Known) (run : List Seen) → AllMayCome known.setup.passing run → AreRight known known.setup.passing run → OwesNothing (sight_of run) (state_behind known.setup.passing run) → KeepRooms known (tape_of (moves_of run))
 keeps known run may right none = record { gives_back = run_gives_back known run may right none; no_more = gives_no_more known.setup.passing (moves_of run) (all_allowed known known.setup.passing run may right); holds_back = holds_back known.setup.passing (moves_of run) (all_allowed known known.setup.passing run may right) }
 
 module _ (known : Known) (run : List Seen) (at : OwesNothing (sight_of run) (state_behind known.setup.passing run) → KeepRooms known (tape_of (moves_of run))) (before : HoldsInTurn (KeepRooms known) (tape_of (moves_of run))) where
@@ -216,9 +226,10 @@ module _ (known : Known) (run : List Seen) (at : OwesNothing (sight_of run) (sta
   one_more behind Settles may = before
   one_more behind (Gives noted) may = before
   one_more behind (Sends noted over) may = before
+  one_more behind (Uses k octets) may = before
   one_more behind (Acts act) may = before
 
 -- Something comes in only where nothing is owed: so each window is then as at first, but for what is kept.
-pub rooms_in_turn : (known : Known) (run : List Seen) → AllMayCome known.setup.passing run → AreRight known run → HoldsInTurn (KeepRooms known) (tape_of (moves_of run))
+pub rooms_in_turn : (known : Known) (run : List Seen) → AllMayCome known.setup.passing run → AreRight known known.setup.passing run → HoldsInTurn (KeepRooms known) (tape_of (moves_of run))
 rooms_in_turn known [] may right = tt
 rooms_in_turn known (x ∷ run) may right = one_more known run (keeps known run may.0 right.0) (rooms_in_turn known run may.0 right.0) x.sight x.move may.1

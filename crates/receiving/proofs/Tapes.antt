@@ -1,5 +1,5 @@
 -- What an entry leaves of the active streams, and of the octets that wait.
-use Rattle.std.proofs.Common.{◌≡◌, ℕ, ◌+◌, Bool, true, false, not, ◌&&◌, ◌||◌, ◌==◌, List, [], ◌∷◌, ◌++◌, length, refl, sym, ap, ◌∙◌, arith, length-append, if◌then◌else◌, inl, inr}
+use Rattle.std.proofs.Common.{◌≡◌, ℕ, ◌+◌, ◌≤◌, Bool, true, false, not, ◌&&◌, ◌||◌, ◌==◌, List, [], ◌∷◌, ◌++◌, length, refl, sym, ap, ◌∙◌, arith, length-append, if◌then◌else◌, inl, inr}
 use Rattle.std.specs.Prelude.{Option, Some, None, filter, nat_lt}
 use Rattle.std.proofs.lemmas.Bool.{and_right, eq-eqb, le-ltb}
 use Rattle.std.proofs.Math.Bool.{and-true}
@@ -9,8 +9,9 @@ use Rattle.model.specs.Logs.Act.{Open, ToUp, Close, CloseClient}
 use Rattle.model.specs.Tapes.{Noted, Entry, came, sent, sent_up}
 use Rattle.model.specs.Tapes.Entry.{Came, Breached, Happened, Sent, Did}
 use Rattle.model.specs.Decoding.{Partial, begun, joined, completed}
+use Rattle.model.specs.Openings.{Opened}
 use Rattle.model.specs.Lifetimes.{opens_by, opened, is_over, is_active, active}
-use Rattle.model.specs.WindowsOnTape.{is_on, is_any, data_length}
+use Rattle.model.specs.WindowsOnTape.{is_on, is_any, data_length, data_octets}
 use Rattle.model.specs.WindowClause.{waiting}
 use Rattle.model.proofs.OpenedLaws.{opens_new, none_zero}
 use Rattle.model.proofs.ActiveLaws.{active_control, active_beside}
@@ -201,6 +202,22 @@ waits_alike id k j taken (Did (Open i route) ∷ t) put a b = waits_alike id k j
 waits_alike id k j taken (Did (ToUp i octets) ∷ t) put a b = waits_alike id k j taken t put (unput_before k i t octets a) (unput_before j i t octets b)
 waits_alike id k j taken (Did (Close i) ∷ t) put a b = waits_alike id k j taken t put a b
 waits_alike id k j taken (Did CloseClient ∷ t) put a b = waits_alike id k j taken t put a b
+
+-- No more waits than came.
+pub most_waits : (o : Opened) (taken : ℕ) (t : List Entry) (put : ℕ) → waiting o taken t put ≤ data_octets (is_on o.stream) (came t)
+most_waits o taken [] put = omega arith
+most_waits o taken (Came noted ∷ t) put =
+    let more = most_waits o taken t (length (sent_up o.k t)) in
+    let here = by (nat_lt taken put) (data_length (is_on o.stream) noted.frame) in
+    omega (arith, more, here)
+  where
+    by : (b : Bool) (n : ℕ) → (if b then n else 0) ≤ n
+    by true n = omega arith
+    by false n = omega arith
+most_waits o taken (Breached breach ∷ t) put = most_waits o taken t (length (sent_up o.k t))
+most_waits o taken (Happened event ∷ t) put = most_waits o taken t (length (sent_up o.k t))
+most_waits o taken (Sent noted ∷ t) put = most_waits o taken t put
+most_waits o taken (Did act ∷ t) put = most_waits o taken t put
 
 -- where nothing was put out nothing waits
 pub none_waits : (id k taken : ℕ) (t : List Entry) → length (sent_up k t) ≡ 0 → waiting (exchange id k) taken t 0 ≡ 0

@@ -12,15 +12,16 @@ use Rattle.model.specs.Setup.{Passing}
 use Rattle.model.specs.Setup.Passing.{Whole, Streaming}
 use Rattle.model.specs.Tapes.{Noted, Breach, Entry, came, sent, sent_up}
 use Rattle.model.specs.Tapes.Entry.{Came, Breached, Happened, Sent, Did}
-use Rattle.model.specs.Openings.{connection_of, route_of, exchanges, given, last_stream}
+use Rattle.model.specs.Openings.{connection_of, route_of, exchanges, given, last_stream, begins_another}
 use Rattle.model.specs.Windows.{first_window, sending_window}
 use Rattle.model.specs.Lifetimes.{active, is_active}
 use Rattle.model.specs.WindowsOnTape.{is_on, increment, data_length, data_octets, increments}
 use Rattle.model.specs.WindowClause.{taken, waiting, kept, HoldsBack}
 use Rattle.receiving.specs.Marks.{Mark, total, waiting_of}
-use Rattle.receiving.specs.State.{exchange, fresh_of, State, Move, after, with_event, with_given, settle_by, must_wait, entries_of, tape_of, state_of}
-use Rattle.receiving.specs.State.Move.{Takes, Breaks, Hears, Settles, Gives, Sends, Acts}
-use Rattle.receiving.specs.Policy.{Holds, AreAllowed, IsOwed, MayGive, MayOpen}
+use Rattle.receiving.specs.State.{exchange, fresh_of, State, is_live, Move, after, with_event, with_given, settle_by, must_wait, entries_of, tape_of, state_of}
+use Rattle.receiving.specs.State.Move.{Takes, Breaks, Hears, Settles, Gives, Sends, Uses, Acts}
+use Rattle.receiving.specs.Policy.{Holds, AreAllowed, IsOwed, MayGive}
+use Rattle.offering.proofs.Moving.{exchanges_sent}
 use Rattle.receiving.proofs.Sums.{is_among}
 use Rattle.receiving.proofs.Tapes.{among_active, active_given, by_any_route}
 use Rattle.receiving.proofs.Counting.{Counting}
@@ -147,6 +148,15 @@ put_held Streaming t k octets settled id its before h = λ n put le cond.
     let here : waiting (exchange id (upstream id (Did (ToUp k octets) ∷ t))) n t put ≡ waiting (exchange id (upstream id t)) n t put = ap (λ j. waiting (exchange id j) n t put) same in
     omega (arith, old, here)
 
+-- or for one that begins for another stream
+used_held : (passing : Passing) (t : List Entry) (k : ℕ) (octets : List ℕ) (settled : Bool) (id : ℕ) → (last_stream t == id) ≡ false → begins_another (given k (exchanges t)) (last_stream t) octets ≡ true → (passing ≡ Streaming → settled ≡ false) → IsHeldBack passing t settled id → IsHeldBack passing (Did (ToUp k octets) ∷ t) settled id
+used_held Whole t k octets settled id other begins before h = h
+used_held Streaming t k octets settled id other begins before h = λ n put le cond.
+    let same : upstream id (Did (ToUp k octets) ∷ t) ≡ upstream id t = ap (connection_of id) (exchanges_sent k octets t true begins) ∙ ap (λ b. if b then k else upstream id t) other in
+    let old = h n put (subst (λ (j : ℕ). taken j t ≤ n) same le) (λ e. absurd (let no : true ≡ false = sym e ∙ before refl in cc)) in
+    let here : waiting (exchange id (upstream id (Did (ToUp k octets) ∷ t))) n t put ≡ waiting (exchange id (upstream id t)) n t put = ap (λ j. waiting (exchange id j) n t put) same in
+    omega (arith, old, here)
+
 closed_held : (passing : Passing) (t : List Entry) (k : ℕ) (settled : Bool) (id : ℕ) → IsHeldBack passing t settled id → IsHeldBack passing (Did (Close k) ∷ t) settled id
 closed_held Whole t k settled id h = h
 closed_held Streaming t k settled id h = h
@@ -194,10 +204,10 @@ gives_elsewhere t s noted id counted may off = elim (eqb_tells noted.frame.id id
 ]
 
 -- a connection is given to an active stream alone
-opens_elsewhere : (t : List Entry) (s : State) (k id : ℕ) → s.live ≡ active t → s.stream ≡ last_stream t → MayOpen s k → is_active id t ≡ false → (last_stream t == id) ≡ false
-opens_elsewhere t s k id live last may off = elim (eqb_tells (last_stream t) id) [
+begins_elsewhere : (t : List Entry) (s : State) (id : ℕ) → s.live ≡ active t → s.stream ≡ last_stream t → is_live s s.stream ≡ true → is_active id t ≡ false → (last_stream t == id) ≡ false
+begins_elsewhere t s id live last on_live off = elim (eqb_tells (last_stream t) id) [
   | inl is ↦ (
-      let among : is_among id (active t) ≡ true = ap (λ ids. is_among id ids) (sym live) ∙ ap (λ n. is_among n s.live) (sym is.1 ∙ sym last) ∙ may.active in
+      let among : is_among id (active t) ≡ true = ap (λ ids. is_among id ids) (sym live) ∙ ap (λ n. is_among n s.live) (sym is.1 ∙ sym last) ∙ on_live in
       absurd (let no : true ≡ false = sym among ∙ among_active t id ∙ off in cc)
       )
   | inr x ↦ x.0
@@ -213,7 +223,8 @@ over_held passing t s (Gives noted) id counted r off h may =
     subst (λ b. IsHeldBack passing (Sent noted ∷ t) b id) (sym (given_on (noted.frame.id == 0) s noted))
     (sent_held passing t noted s.settled id (ap (λ b. noted.frame.kind == window_update_kind && b) (gives_elsewhere t s noted id counted may off) ∙ and_right (noted.frame.kind == window_update_kind) false refl) h)
 over_held passing t s (Sends noted over) id counted r off h may = sent_held passing t noted s.settled id (ap (λ b. b && noted.frame.id == id) may.kind) h
-over_held passing t s (Acts (Open k route)) id counted r off h may = opened_held passing t k route s.settled id (opens_elsewhere t s k id r.keeping.live r.counting.last may off) h
+over_held passing t s (Uses k octets) id counted r off h may = used_held passing t k octets s.settled id (begins_elsewhere t s id r.keeping.live r.counting.last may.0.active off) may.0.begins may.0.in_effect h
+over_held passing t s (Acts (Open k route)) id counted r off h may = opened_held passing t k route s.settled id (begins_elsewhere t s id r.keeping.live r.counting.last may.active off) h
 over_held passing t s (Acts (ToUp k octets)) id counted r off h may = put_held passing t k octets s.settled id may.its may.in_effect h
 over_held passing t s (Acts (Close k)) id counted r off h may = closed_held passing t k s.settled id h
 over_held passing t s (Acts CloseClient) id counted r off h may = shut_held passing t s.settled id h

@@ -12,13 +12,13 @@ use Rattle.model.specs.Tapes.Entry.{Came, Sent}
 use Rattle.model.specs.Decoding.{completed}
 use Rattle.model.specs.Windows.{first_window}
 use Rattle.model.specs.Openings as openings
-use Rattle.model.specs.Openings.{exchanges, last_stream}
+use Rattle.model.specs.Openings.{exchanges, last_stream, begins_another}
 use Rattle.model.specs.Lifetimes.{opens_by, opened, active, is_active, is_ended_by_client}
-use Rattle.model.specs.WindowsOnTape.{increment, room_on}
+use Rattle.model.specs.WindowsOnTape.{is_on, data_octets, increment, room_on}
 use Rattle.model.specs.Known.{Known}
 use Rattle.model.specs.WindowClause.{GivesBack, GivesNoMore, HoldsBack}
 use Rattle.receiving.specs.State.{State, is_live, Move, tape_of, state_of}
-use Rattle.receiving.specs.State.Move.{Takes, Breaks, Hears, Settles, Gives, Sends, Acts}
+use Rattle.receiving.specs.State.Move.{Takes, Breaks, Hears, Settles, Gives, Sends, Uses, Acts}
 
 -- ---- admission
 
@@ -118,6 +118,19 @@ pub record MayPut (passing : Passing) (gates : Gates) (s : State) (k : ℕ) : Ty
   pub its : gates.given k ≡ gates.last
   pub in_effect : passing ≡ Streaming → s.settled ≡ false
 
+-- Octets begin another exchange on a connection that is open, for the stream of the last frame, which is active and has none; where requests are passed
+-- on as they come, before the frame's effect is over.
+pub record MayUse (passing : Passing) (gates : Gates) (s : State) (k : ℕ) (octets : List ℕ) : Type 0 where
+  pub opened : gates.is_up k ≡ true
+  pub begins : begins_another (gates.given k) gates.last octets ≡ true
+  pub active : is_live s s.stream ≡ true
+  pub first : (s.row s.stream).k ≡ 0
+  pub in_effect : passing ≡ Streaming → s.settled ≡ false
+
+-- Where requests are passed on as they come, no DATA came on the stream of the last frame.
+abbrev pub IsBare : Passing → List Entry → Type 0
+IsBare passing t = passing ≡ Streaming → data_octets (is_on (last_stream t)) (came t) ≡ 0
+
 -- The act may be done.
 abbrev pub MayDo : Passing → Gates → State → Act → Type 0
 MayDo passing gates s (Open k route) = MayOpen s k
@@ -134,6 +147,7 @@ Holds passing t s (Hears event) = MayHear (gates_on t) s event
 Holds passing t s Settles = Unit {0}
 Holds passing t s (Gives noted) = MayGive t s noted.frame
 Holds passing t s (Sends noted over) = MaySend t noted over
+Holds passing t s (Uses k octets) = MayUse passing (gates_on t) s k octets × IsBare passing t
 Holds passing t s (Acts act) = MayDo passing (gates_on t) s act
 
 -- Each move is allowed where it stands; the newest stands first.

@@ -3,13 +3,13 @@
 use Rattle.std.specs.Prelude.{◌≡◌, ℕ, ◌<◌, ◌⊎◌, Bool, true, false, not, ◌&&◌, ◌==◌, List, [], ◌∷◌, map}
 use Rattle.model.specs.Frames.{Frame, window_update_kind}
 use Rattle.model.specs.Setup.{Passing}
-use Rattle.model.specs.Tapes.{Noted}
+use Rattle.model.specs.Tapes.{Noted, Entry}
 use Rattle.model.specs.Known.{Known}
 use Rattle.model.specs.WindowsOnTape.{increment}
 use Rattle.offering.specs.Sight.{Sight, first_sight, IsRightOf}
 use Rattle.receiving.specs.State.{State, Move, tape_of, start, after, Kept, kept_of, with_told}
-use Rattle.receiving.specs.State.Move.{Takes, Breaks, Hears, Settles, Gives, Sends, Acts}
-use Rattle.receiving.specs.Policy.{Gates, AreGates, gates_on, MayHear, MayDo}
+use Rattle.receiving.specs.State.Move.{Takes, Breaks, Hears, Settles, Gives, Sends, Uses, Acts}
+use Rattle.receiving.specs.Policy.{Gates, AreGates, gates_on, MayHear, MayUse, IsBare, MayDo}
 
 -- a stream is over with a move
 abbrev pub is_over_by : Sight → Sight → ℕ → Bool
@@ -53,6 +53,7 @@ MayCome passing gates before behind s (Hears event) = OwesNothing before s × Ma
 MayCome passing gates before behind s Settles = Unit {0}
 MayCome passing gates before behind s (Gives noted) = GivesAll before s noted.frame
 MayCome passing gates before behind s (Sends noted over) = SendsOther before behind noted over
+MayCome passing gates before behind s (Uses k octets) = MayUse passing gates s k octets
 MayCome passing gates before behind s (Acts act) = MayDo passing gates s act
 
 -- Octets are to be given back, by what is read: the last frame's effect is over, and some are owed on the connection, or on an active stream that the
@@ -101,7 +102,13 @@ abbrev pub AllMayCome : Passing → List Seen → Type 0
 AllMayCome passing [] = Unit {0}
 AllMayCome passing (x ∷ run) = AllMayCome passing run × MayCome passing (gates_of run) (sight_of run) x.sight (state_behind passing run) x.move
 
--- What was read and told is right behind each move.
-abbrev pub AreRight : Known → List Seen → Type 0
-AreRight known [] = Unit {0}
-AreRight known (x ∷ run) = AreRight known run × IsRightOf known (tape_of (moves_of (x ∷ run))) x.sight × AreGates (tape_of (moves_of (x ∷ run))) x.gates
+-- No DATA came on a stream that a kept connection is given to.
+abbrev pub IsTold : Passing → List Entry → Move → Type 0
+IsTold passing t (Uses k octets) = IsBare passing t
+IsTold passing t _ = Unit {0}
+
+-- What was read and told is right behind each move, and what the moves ask of the others.
+abbrev pub AreRight : Known → Passing → List Seen → Type 0
+AreRight known passing [] = Unit {0}
+AreRight known passing (x ∷ run) =
+    AreRight known passing run × IsRightOf known (tape_of (moves_of (x ∷ run))) x.sight × AreGates (tape_of (moves_of (x ∷ run))) x.gates × IsTold passing (tape_of (moves_of run)) x.move

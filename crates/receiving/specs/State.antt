@@ -65,6 +65,9 @@ pub data Move : Type 0 where
   Gives : (noted : Noted) → Move
   -- any other frame, with which its stream may be over
   Sends : (noted : Noted) → (over : Bool) → Move
+  -- octets are put out that begin another exchange on a connection, for the stream of the last frame
+  Uses : (k : ℕ) → (octets : List ℕ) → Move
+  -- any other act
   Acts : (act : Act) → Move
 
 -- what a move puts on the tape
@@ -75,6 +78,7 @@ entries_of (Hears event) = Happened event ∷ []
 entries_of Settles = []
 entries_of (Gives noted) = Sent noted ∷ []
 entries_of (Sends noted over) = Sent noted ∷ []
+entries_of (Uses k octets) = Did (ToUp k octets) ∷ []
 entries_of (Acts act) = Did act ∷ []
 
 -- the tape of moves; both stand with the newest first
@@ -193,7 +197,11 @@ with_sent s noted over = record s {
   debt = s.debt + dropped over s noted.frame.id;
 }
 
--- an act
+-- the stream of the last frame gets a connection that is kept, and octets go out for it
+abbrev pub with_use : State → ℕ → List ℕ → State
+with_use s k octets = record s { row = change s.stream (given k) s.row; out = add k (length octets) s.out }
+
+-- any other act
 abbrev pub with_act : State → Act → State
 with_act s (Open k route) = record s { row = change s.stream (given k) s.row }
 with_act s (ToUp k octets) = record s { out = add k (length octets) s.out }
@@ -208,6 +216,7 @@ after passing s (Hears event) = with_event s event
 after passing s Settles = with_settled passing s
 after passing s (Gives noted) = with_given (noted.frame.id == 0) s noted
 after passing s (Sends noted over) = with_sent s noted over
+after passing s (Uses k octets) = with_use s k octets
 after passing s (Acts act) = with_act s act
 
 -- the state behind all moves

@@ -6,6 +6,7 @@
 //!   `admission_is_told`, from the event's being admitted; octets that wait are the queue's (`receiving_queue`);
 //! - `AreRight`: what is read of `conduct`'s summary is right (`sights_are_right` of `offering`); how many octets the client hasn't taken,
 //!   whether it is closed, which streams are active and which is the last frame's are of it too, and which connections are open is `connections_are_told` of `serving`, clause `up`;
+//!   that no DATA came on a stream that a kept connection is given to is its clause `used`;
 //! - `OwesNothing`: nothing is owed, where a step ends. Something comes in only there (`MayCome`).
 //!
 //! What is held of a response (`AreHeld`) is what its stream's outbox has (`held_is_told`). What a gateway keeps for this is `Kept`; which
@@ -17,7 +18,7 @@ ghost use Rattle.std.specs.Prelude.{◌≡◌, ◌≢◌, ◌+◌, ℕ, true, Li
 ghost use Rattle.model.specs.Setup.{Passing};
 ghost use Rattle.model.specs.Logs.{Event};
 ghost use Rattle.model.specs.Tapes.{Entry, sent};
-ghost use Rattle.model.specs.Openings.{Opened, exchanges, AreNumbered};
+ghost use Rattle.model.specs.Openings.{Opened};
 ghost use Rattle.model.specs.Setup.Passing.{Streaming};
 ghost use Rattle.model.specs.Windows.{first_window};
 ghost use Rattle.model.specs.WindowsOnTape.{room_on, room_on_connection};
@@ -49,10 +50,10 @@ pub fn windows_go_back()
 /// only where nothing is: so it holds before each thing
 /// that comes in.
 pub fn states_give_back()
-    ensures allowed { (known : Known) (passing : Passing) (run : List Seen) → AllMayCome passing run → AreRight known run → AreAllowed passing (moves_of run) }
-    ensures at_rest { (known : Known) (run : List Seen) → AllMayCome known.setup.passing run → AreRight known run → OwesNothing (sight_of run) (state_behind known.setup.passing run) → GivesBack known (tape_of (moves_of run)) }
-    ensures some { (known : Known) (run : List Seen) → AllMayCome known.setup.passing run → AreRight known run → OwesSome (sight_of run) (state_behind known.setup.passing run) → GoesBack known.setup.passing (tape_of (moves_of run)) }
-    ensures in_turn { (known : Known) (run : List Seen) → AllMayCome known.setup.passing run → AreRight known run → HoldsInTurn (KeepRooms known) (tape_of (moves_of run)) }
+    ensures allowed { (known : Known) (passing : Passing) (run : List Seen) → AllMayCome passing run → AreRight known passing run → AreAllowed passing (moves_of run) }
+    ensures at_rest { (known : Known) (run : List Seen) → AllMayCome known.setup.passing run → AreRight known known.setup.passing run → OwesNothing (sight_of run) (state_behind known.setup.passing run) → GivesBack known (tape_of (moves_of run)) }
+    ensures some { (known : Known) (run : List Seen) → AllMayCome known.setup.passing run → AreRight known known.setup.passing run → OwesSome (sight_of run) (state_behind known.setup.passing run) → GoesBack known.setup.passing (tape_of (moves_of run)) }
+    ensures in_turn { (known : Known) (run : List Seen) → AllMayCome known.setup.passing run → AreRight known known.setup.passing run → HoldsInTurn (KeepRooms known) (tape_of (moves_of run)) }
 {}
 
 /// The octets of a stream that wait on a tape are those behind marks that aren't reached.
@@ -80,7 +81,7 @@ pub fn admission_is_told()
     ensures only { (known : Known) (passing : Passing) (moves : List Move) (gates : Gates) (held : ℕ → ℕ) (event : Event) → AreAllowed passing moves → AreGates (tape_of moves) gates → AreHeld known (tape_of moves) held event → IsAdmitted known (tape_of moves) event → admits_beside gates (state_of passing moves) held event ≡ true }
 {}
 
-/// Where responses are passed on as they come, what takes room is the body in the outbox of the upstream's stream.
+/// Where responses are passed on as they come, what takes room is the body in the outbox of the stream that the upstream was given to last.
 pub fn held_is_told()
-    ensures { (known : Known) (t : List Entry) (k : ℕ) (box : Outbox) → AreNumbered (exchanges t) → HasOutbox known t k box → AreUnpadded (sent t) → IsHeld Streaming known t k (length (body_in box)) }
+    ensures { (known : Known) (t : List Entry) (k : ℕ) (box : Outbox) → HasOutbox known t k box → AreUnpadded (sent t) → IsHeld Streaming known t k (length (body_in box)) }
 {}

@@ -1,8 +1,9 @@
 //! Gateways to which a growth of memory is refused: `refusals FILE`.
 //!
 //! The file has a line with a number and with how bodies are passed on, `whole` or `streaming`, and scripts of `h2replay`, each behind an empty line. A script's
-//! first line may be `route AUTHORITY`: then the route is for that authority, else for any. Each goes through two gateways at once, under either policy, and both
-//! put out the same at each event, until a growth is refused to one of them: that step says so and puts out nothing, and its gateway is closed from then on.
+//! first line may be `keep`: then connections to upstreams are kept. The next may be `route AUTHORITY`: then the route is for that authority, else for
+//! any. Each goes through two gateways at once, under either policy, and both put out the same at each event, until a growth is refused to one of them:
+//! that step says so and puts out nothing, and its gateway is closed from then on.
 //!
 //! As many growths as the number says are made first. `.ci/refusals` has one growth refused, always that of the same number, and reaches each
 //! growth of a gateway by how many are made before it.
@@ -81,42 +82,62 @@ fn go_through(alloc: Global, text: &str, passing: Passing) -> Result<Met, AllocE
     Ok(Met::Nothing)
 }
 
-/// The authority that the route is for by a script's first line, if that says one, and the lines of its events.
-fn split_route(script: &str) -> (&str, &str) {
-    script
+/// A script: what its first lines say, and the lines of its events.
+#[derive(Clone, Copy)]
+struct Script<'a> {
+    /// Whether connections to upstreams are kept.
+    keep: bool,
+    /// The authority that the route is for; empty for any.
+    authority: &'a str,
+    lines: &'a str,
+}
+
+/// A script by its text.
+fn script_of(text: &str) -> Script<'_> {
+    let (keep, rest) = match text.strip_prefix("keep\n") {
+        Some(rest) => (true, rest),
+        None => (false, text),
+    };
+    let (authority, lines) = rest
         .strip_prefix("route ")
         .and_then(|rest| rest.split_once('\n'))
-        .unwrap_or(("", script))
+        .unwrap_or(("", rest));
+    Script {
+        keep,
+        authority,
+        lines,
+    }
 }
 
 /// What is met in a script, under one policy and then under the other.
 fn met_in(alloc: Global, script: &str, passing: Passing) -> Result<Met, AllocError> {
-    let (authority, lines) = split_route(script);
-    let events = match read_script(alloc, lines) {
+    let script = script_of(script);
+    let events = match read_script(alloc, script.lines) {
         Ok(events) => events,
         Err(ScriptFault::Memory) => return Err(AllocError),
         Err(ScriptFault::NotALine(_)) => return Ok(Met::Difference),
     };
-    let plain = config(alloc, authority, Policy::Plain, passing)?;
+    let plain = config(alloc, script, Policy::Plain, passing)?;
     let met = met_by(alloc, &plain, &events);
     if met != Met::Nothing {
         return Ok(met);
     }
-    let indexing = config(alloc, authority, Policy::Indexing, passing)?;
+    let indexing = config(alloc, script, Policy::Indexing, passing)?;
     Ok(met_by(alloc, &indexing, &events))
 }
 
-/// The default configuration, but for how blocks are written and bodies passed on, with one route: for an authority, or for any if that is empty.
+/// The default configuration, but for how blocks are written, bodies passed on and connections kept, with one route: for an authority, or for any if that
+/// is empty.
 fn config(
     alloc: Global,
-    authority: &str,
+    script: Script<'_>,
     policy: Policy,
     passing: Passing,
 ) -> Result<Config, AllocError>
     ensures { IfOk result (λ config. IsServable (setup_of config)) }
 {
     let route = Route {
-        authority: Vec::from_slice(alloc, authority.as_bytes())?,
+        authority: Vec::from_slice(alloc, script.authority.as_bytes())?,
         prefix: Vec::from_slice(alloc, b"/")?,
         upstream: String::new(alloc),
     };
@@ -126,6 +147,6 @@ fn config(
         passing,
         max_body: 1048576,
         max_response: 1048576,
-        keep: false,
+        keep: script.keep,
     })
 }

@@ -27,7 +27,8 @@ use Rattle.offering.specs.State as offering
 use Rattle.receiving.specs.State as receiving
 use Rattle.serving.specs.Told.{Told}
 use Rattle.serving.specs.State as serving
-use Rattle.serving.specs.State.{Due, Held, id_of, without}
+use Rattle.serving.specs.Lines.{find as find_one, without}
+use Rattle.serving.specs.State.{Due, Held, id_of}
 use Rattle.header_blocks.specs.Encoding.{Encoding}
 use Rattle.tables.specs.State as tables
 use Rattle.tables.specs.State.{limits_and, named_by}
@@ -50,7 +51,7 @@ use Rattle.policy.specs.Steps.{Stands, told_by, next, MayGoOn}
 use Rattle.policy.proofs.Stepping.{one_more}
 use Rattle.relay.specs.Others.{SameOf}
 use Rattle.relay.specs.Taking.{IsFrameTaken}
-use Rattle.relay.specs.View.{View, Pending, square, GoBack, AreMarked, AreSo, AreHeard, IsInEffect, Leads}
+use Rattle.relay.specs.View.{View, Pending, square, GoBack, newest_in, AreMarked, AreSo, AreHeard, IsInEffect, Leads}
 use Rattle.relay.specs.Bringing.{Course}
 use Rattle.relay.proofs.Beside.{others_stay, served_stays}
 use Rattle.relay.proofs.Kept.{held_behind, AreServed}
@@ -315,16 +316,16 @@ module _ (setup : Setup) (run : List Move) (kept : View) (s : State) (leads : Le
       never false none = refl
 
   -- What waits of DATA is kept as before, but of a stream that is over.
-  marked_then : AreMarked setup.passing (marks.unless_over (change_between kept.inbound.rows behind.rows noted.frame.id).over noted.frame.id kept.marks) (rooms_in (told_by then_state) then_state)
+  marked_then : AreMarked setup.passing (newest_in then_state) (marks.unless_over (change_between kept.inbound.rows behind.rows noted.frame.id).over noted.frame.id kept.marks) (rooms_in (told_by then_state) then_state)
   marked_then =
-      subst (λ b. AreMarked setup.passing (marks.unless_over b noted.frame.id kept.marks) (rooms_in (told_by then_state) then_state)) over_kept
-      (subst (AreMarked setup.passing (marks.unless_over over_with_it noted.frame.id kept.marks)) (sym (rooms_next setup run s leads.stands leads.so deed may_come so_then))
-      (marked_came setup.passing kept.marks (rooms_in (told_by s) s) leads.marked noted opens_it over_with_it opened_new))
+      subst (λ b. AreMarked setup.passing (newest_in then_state) (marks.unless_over b noted.frame.id kept.marks) (rooms_in (told_by then_state) then_state)) over_kept
+      (subst (AreMarked setup.passing (newest_in s) (marks.unless_over over_with_it noted.frame.id kept.marks)) (sym (rooms_next setup run s leads.stands leads.so deed may_come so_then))
+      (marked_came setup.passing (newest_in s) kept.marks (rooms_in (told_by s) s) leads.marked noted opens_it over_with_it opened_new))
 
   -- The octets that waited for such a stream go back.
   debt_then : then_state.windows.debt ≡ dropped_of (change_between kept.inbound.rows behind.rows noted.frame.id).over noted.frame.id kept.marks
   debt_then =
-      telling.drops kept.marks (rooms_in (told_by s) s) leads.marked.stand over_with_it noted.frame.id was_active
+      telling.drops (newest_in s) kept.marks (rooms_in (told_by s) s) leads.marked.stand over_with_it noted.frame.id was_active
       ∙ none_before (dropped_of over_with_it noted.frame.id kept.marks)
       ∙ ap (λ b. dropped_of b noted.frame.id kept.marks) over_kept
     where
@@ -361,15 +362,16 @@ module _ (setup : Setup) (run : List Move) (kept : View) (s : State) (leads : Le
         shared = debt_then ∙ back;
         own = none_behind;
       };
-      counted = λ k c found. leads.keeps.counted k c (subst (λ (cs : List Connection). serving.find number_of k cs ≡ Some c) same_live found);
+      counted = λ k c found. leads.keeps.counted k c (subst (λ (cs : List Connection). find_one number_of k cs ≡ Some c) same_live found);
     };
-    marked = subst (λ (ms : List Side). AreMarked setup.passing ms (rooms_in (told_by then_state) then_state)) left marked_then;
+    marked = subst (λ (ms : List Side). AreMarked setup.passing (newest_in then_state) ms (rooms_in (told_by then_state) then_state)) left marked_then;
     in_effect = in_time due;
   }
     where
       in_time : (d : Due) → IsInEffect d false
       in_time Due.Nothing = tt
       in_time (Due.ToOpen stream route text stage) = refl
+      in_time (Due.ToUse k stream text stage) = refl
       in_time (Due.ToSend k text) = refl
 
   -- The frame begins a course that leads there, with which nothing is put out.

@@ -1,5 +1,5 @@
 -- Where what is kept says that too many octets are untaken, the rule says so of the state.
-use Rattle.std.proofs.Common.{◌≡◌, ◌<◌, ◌⊎◌, ℕ, nat_lt, List, ◌∷◌, sym, ◌∙◌, ap, subst, inl, inr}
+use Rattle.std.proofs.Common.{◌<◌, nat_lt, List, sym, ◌∙◌, ap, subst, inl, inr}
 use Rattle.std.proofs.lemmas.Bool.{lt-ltb}
 use Rattle.model.specs.Setup.{Setup}
 use Rattle.model.specs.Admission.{most_untaken}

@@ -8,6 +8,7 @@ use Rattle.model.specs.Messages.{Item, ends_with}
 use Rattle.model.specs.Messages.Item.{Block}
 use Rattle.model.specs.Malformed.{is_begun}
 use Rattle.model.specs.Setup.{Setup}
+use Rattle.model.specs.Logs.{Act}
 use Rattle.model.specs.Logs.Event.{Client, ClientEnd, ClientTook, Up, UpEnd, UpFailed, UpTook}
 use Rattle.model.specs.Logs.Act.{Open, ToUp, Close, CloseClient}
 use Rattle.model.specs.Tapes.{Noted, Entry}
@@ -20,17 +21,19 @@ use Rattle.conduct.specs.Owing.{items_in, new_cause_in}
 use Rattle.conduct.specs.After.{kept_behind}
 use Rattle.conduct.specs.Rows.{Row, find, rows_after}
 use Rattle.conduct.specs.Book.{Book, summary_in}
+use Rattle.h1_writer.specs.Sending.{Stage}
 use Rattle.serving.specs.Told.{Told}
 use Rattle.serving.specs.State as serving
 use Rattle.serving.specs.Written.{octets_of, trailers_in}
-use Rattle.serving.specs.State.{Way, Held, id_of, held_of, held_with, held_at, held_opened, kept, drop_from, Due, is_whole, goes_now, with_way}
+use Rattle.serving.specs.Lines.{Line, least_idle}
+use Rattle.serving.specs.State.{Way, Held, id_of, held_of, held_with, held_at, held_opened, held_used, kept, drop_from, Due, is_whole, goes_now, with_way}
 use Rattle.serving.specs.State.Way.{Waiting, Going, Dropped}
-use Rattle.serving.specs.State.Due.{Nothing, ToOpen, ToSend}
+use Rattle.serving.specs.State.Due.{Nothing, ToOpen, ToUse, ToSend}
 use Rattle.serving.specs.Rule as requests
 use Rattle.serving.proofs.Lists.{find_first, find_map, held_now, held_beside}
 use Rattle.serving.proofs.Framing.{held_kept}
 use Rattle.policy.specs.Moves.{Gain, Deed, entry_of, fails_in, request_of, gained}
-use Rattle.policy.specs.Moves.Deed.{Takes, Breaks, Notes, Hears, Fails, Sends, Goes, Acts}
+use Rattle.policy.specs.Moves.Deed.{Takes, Breaks, Notes, Hears, Fails, Idles, Sends, Goes, Acts}
 use Rattle.policy.specs.Rule.{added_in, Gains, GainsIf}
 use Rattle.relay.specs.Ways.{IsDuePart}
 use Rattle.relay.proofs.Courses.{GoOn, behind_rows, goes_on}
@@ -52,9 +55,13 @@ abbrev pub IsAwaited : ℕ → serving.State → Type 0
 IsAwaited id r = IsHeld id r.held ⊎ IsDuePart r.due id
 
 -- A connection that is due for a whole request is due for a stream whose items don't go on.
+abbrev pub IsEnded : List Row → ℕ → Stage → Type 0
+IsEnded rows stream stage = is_whole stage ≡ true → (find rows stream).brief.begun ≡ true → (find rows stream).brief.over ≡ false → ⊥
+
 abbrev pub DueEnded : List Row → Due → Type 0
 DueEnded rows Nothing = Unit {0}
-DueEnded rows (ToOpen stream route text stage) = is_whole stage ≡ true → (find rows stream).brief.begun ≡ true → (find rows stream).brief.over ≡ false → ⊥
+DueEnded rows (ToOpen stream route text stage) = IsEnded rows stream stage
+DueEnded rows (ToUse k stream text stage) = IsEnded rows stream stage
 DueEnded rows (ToSend k text) = Unit {0}
 
 -- Each stream whose items go on is held, or a connection is due for it, and it isn't replied to; nothing that is held is whole.
@@ -111,6 +118,11 @@ none_due due nothing id part = subst (λ (d : Due). IsDuePart d id) nothing part
 ended_sent : (rows : List Row) (k : ℕ) (written : List ℕ) → DueEnded rows (serving.to_send k written)
 ended_sent rows k [] = tt
 ended_sent rows k (octet ∷ octets) = tt
+
+ended_open : (rows : List Row) (stream route : ℕ) (text : List ℕ) (stage : Stage) → IsEnded rows stream stage → (b : Bool) (idle : Option ℕ) → DueEnded rows (serving.to_open b idle stream route text stage)
+ended_open rows stream route text stage ended true None = ended
+ended_open rows stream route text stage ended true (Some k) = ended
+ended_open rows stream route text stage ended false idle = tt
 
 -- ---- what a connection that is closed leaves
 
@@ -175,15 +187,19 @@ module _ (setup : Setup) (book : Book) (r : serving.State) (before : AllGoOn boo
       still_held id begun over hs h = (h.0, stays_held behind id (served id begun (none_caused id over)) hs h.0 h.1)
 
       -- what is due is not whole behind it where its stream's items go on
-      still_ended : ((id : ℕ) → items_in id s e ≡ []) → (due : Due) → DueEnded book.rows due → DueEnded after due
-      still_ended none Nothing ended = tt
-      still_ended none (ToSend k text) ended = tt
-      still_ended none (ToOpen stream route text stage) ended = λ is begun over.
+      stays_ended : ((id : ℕ) → items_in id s e ≡ []) → (stream : ℕ) (stage : Stage) → IsEnded book.rows stream stage → IsEnded after stream stage
+      stays_ended none stream stage ended is begun over =
           let go = back stream begun over in
           ended is (or_none (find book.rows stream).brief.begun (ap (λ (xs : List Item). (find book.rows stream).brief.begun || is_begun xs) (sym (none stream)) ∙ sym go.begun ∙ begun)) go.not_over
 
+      still_ended : ((id : ℕ) → items_in id s e ≡ []) → (due : Due) → DueEnded book.rows due → DueEnded after due
+      still_ended none Nothing ended = tt
+      still_ended none (ToSend k text) ended = tt
+      still_ended none (ToOpen stream route text stage) ended = stays_ended none stream stage ended
+      still_ended none (ToUse k stream text stage) ended = stays_ended none stream stage ended
+
       -- an entry that brings nothing, with which nothing is held anew, and what is due stays
-      kept_all : ((id : ℕ) → items_in id s e ≡ []) → (live : List serving.Live) (count : ℕ) → AllGoOn after (record { held = kept behind r.held; live = live; due = r.due; count = count })
+      kept_all : ((id : ℕ) → items_in id s e ≡ []) → (live : List Line) (count : ℕ) → AllGoOn after (record { held = kept behind r.held; live = live; due = r.due; count = count })
       kept_all none live count = record {
         awaited = λ id begun over. elim (was_awaited id begun over (none id)) [ inl held ↦ inl (still_held id begun over r.held held) | inr part ↦ inr part ];
         no_cause = none_caused;
@@ -191,7 +207,7 @@ module _ (setup : Setup) (book : Book) (r : serving.State) (before : AllGoOn boo
         due = still_ended none r.due before.due;
       }
 
-      kept_dropped : ((id : ℕ) → items_in id s e ≡ []) → r.due ≡ Nothing → (k : ℕ) (live : List serving.Live) (count : ℕ) → AllGoOn after (record { held = kept behind (map (drop_from k) r.held); live = live; due = r.due; count = count })
+      kept_dropped : ((id : ℕ) → items_in id s e ≡ []) → r.due ≡ Nothing → (k : ℕ) (live : List Line) (count : ℕ) → AllGoOn after (record { held = kept behind (map (drop_from k) r.held); live = live; due = r.due; count = count })
       kept_dropped none nothing k live count = record {
         awaited = λ id begun over. inl (still_held id begun over (map (drop_from k) r.held) (dropped_held k id r.held (was_held id (none_due r.due nothing id) begun over (none id))));
         no_cause = none_caused;
@@ -239,7 +255,7 @@ module _ (setup : Setup) (book : Book) (r : serving.State) (before : AllGoOn boo
         abbrev now_held : List Held
         now_held = held_with n (if b then None else Some way) r.held
 
-        with_own : (live : List serving.Live) (count : ℕ) (due : Due) → ((find then_rows n).brief.begun ≡ true → (find then_rows n).brief.over ≡ false → IsHeld n now_held ⊎ IsDuePart due n) → DueEnded then_rows due
+        with_own : (live : List Line) (count : ℕ) (due : Due) → ((find then_rows n).brief.begun ≡ true → (find then_rows n).brief.over ≡ false → IsHeld n now_held ⊎ IsDuePart due n) → DueEnded then_rows due
             → AllGoOn then_rows (record { held = now_held; live = live; due = due; count = count })
         with_own live count due own ended = record {
           awaited = of_all (λ id. (find then_rows id).brief.begun ≡ true → (find then_rows id).brief.over ≡ false → IsHeld id now_held ⊎ IsDuePart due id)
@@ -263,7 +279,7 @@ module _ (setup : Setup) (book : Book) (r : serving.State) (before : AllGoOn boo
         due = subst (DueEnded then_rows) (sym may.nothing) tt;
       }
       taken (Gain.Begins head ended route text stage) adds may =
-          with_own may.0.nothing (goes_now setup stage) way (λ waits. (or_parts (serving.is_streaming setup.passing) (is_whole stage) waits).1) r.live r.count _ (own (goes_now setup stage)) (ended_due (goes_now setup stage))
+          with_own may.0.nothing (goes_now setup stage) way (λ waits. (or_parts (serving.is_streaming setup.passing) (is_whole stage) waits).1) r.live r.count _ (own (goes_now setup stage) (least_idle route r.live)) (ended_due (goes_now setup stage) (least_idle route r.live))
         where
           way : Way
           way = Waiting route text stage []
@@ -271,15 +287,15 @@ module _ (setup : Setup) (book : Book) (r : serving.State) (before : AllGoOn boo
           not_ended : (find then_rows n).brief.begun ≡ true → (find then_rows n).brief.over ≡ false → is_whole stage ≡ false
           not_ended begun over = may.1.whole ∙ ends_not (Block head ended) adds.adds.adds begun over
 
-          own : (b : Bool) → (find then_rows n).brief.begun ≡ true → (find then_rows n).brief.over ≡ false → IsHeld n (held_with n (if b then None else Some way) r.held) ⊎ IsDuePart (serving.to_open b n route text stage) n
-          own true begun over = inr (refl, not_ended begun over)
-          own false begun over = inl (held_so n way r.held)
+          own : (b : Bool) (idle : Option ℕ) → (find then_rows n).brief.begun ≡ true → (find then_rows n).brief.over ≡ false → IsHeld n (held_with n (if b then None else Some way) r.held) ⊎ IsDuePart (serving.to_open b idle n route text stage) n
+          own true None begun over = inr (refl, not_ended begun over)
+          own true (Some k) begun over = inr (refl, not_ended begun over)
+          own false idle begun over = inl (held_so n way r.held)
 
-          ended_due : (b : Bool) → DueEnded then_rows (serving.to_open b n route text stage)
-          ended_due true = λ is begun over. let no : true ≡ false = sym is ∙ not_ended begun over in cc
-          ended_due false = tt
+          ended_due : (b : Bool) (idle : Option ℕ) → DueEnded then_rows (serving.to_open b idle n route text stage)
+          ended_due b idle = ended_open then_rows n route text stage (λ is begun over. let no : true ≡ false = sym is ∙ not_ended begun over in cc) b idle
       taken (Gain.Gathers item route text old body written stage) adds may =
-          with_own may.0.nothing (is_whole stage) way (λ part. part) r.live r.count _ (λ begun over. inl (held_if n (is_whole stage) way r.held (not_ended begun over))) (ended_due (is_whole stage))
+          with_own may.0.nothing (is_whole stage) way (λ part. part) r.live r.count _ (λ begun over. inl (held_if n (is_whole stage) way r.held (not_ended begun over))) (ended_due (is_whole stage) (least_idle route r.live))
         where
           way : Way
           way = Waiting route text stage (body ++ octets_of item)
@@ -291,9 +307,8 @@ module _ (setup : Setup) (book : Book) (r : serving.State) (before : AllGoOn boo
           not_ended : (find then_rows n).brief.begun ≡ true → (find then_rows n).brief.over ≡ false → is_whole stage ≡ false
           not_ended begun over = ap is_whole (same_stage (ends_with item) (ends_not item adds.adds begun over) may.1.gathered) ∙ before.parts n _ may.1.found
 
-          ended_due : (b : Bool) → DueEnded then_rows (serving.to_open b n route (text ++ written) stage)
-          ended_due true = λ is begun over. let no : true ≡ false = sym is ∙ not_ended begun over in cc
-          ended_due false = tt
+          ended_due : (b : Bool) (idle : Option ℕ) → DueEnded then_rows (serving.to_open b idle n route (text ++ written) stage)
+          ended_due b idle = ended_open then_rows n route (text ++ written) stage (λ is begun over. let no : true ≡ false = sym is ∙ not_ended begun over in cc) b idle
       taken (Gain.Passes item k old written stage) adds may =
           with_own may.0.nothing (is_whole stage) (Going k stage) (λ part. part) r.live r.count _
           (λ begun over. inl (held_if n (is_whole stage) (Going k stage) r.held (may.1.whole ∙ ends_not item adds.adds begun over)))
@@ -310,7 +325,7 @@ module _ (setup : Setup) (book : Book) (r : serving.State) (before : AllGoOn boo
   -- ---- any other deed
 
   -- an act or an event that leaves what is held
-  left_held : (fails : Bool) (e : Entry) → ((id : ℕ) → items_in id s e ≡ []) → ((id : ℕ) → IsDuePart r.due id → ⊥) → (live : List serving.Live) (count : ℕ) (due : Due) → DueEnded (rows_after setup fails s e book.rows) due
+  left_held : (fails : Bool) (e : Entry) → ((id : ℕ) → items_in id s e ≡ []) → ((id : ℕ) → IsDuePart r.due id → ⊥) → (live : List Line) (count : ℕ) (due : Due) → DueEnded (rows_after setup fails s e book.rows) due
       → AllGoOn (rows_after setup fails s e book.rows) (record { held = r.held; live = live; due = due; count = count })
   left_held fails e none not_due live count due ended = record {
     awaited = λ id begun over. inl (was_held fails e id (not_due id) begun over (none id));
@@ -322,50 +337,57 @@ module _ (setup : Setup) (book : Book) (r : serving.State) (before : AllGoOn boo
   same_left : (e : Entry) → ((id : ℕ) → items_in id s e ≡ []) → r.due ≡ Nothing → AllGoOn (rows_after setup false s e book.rows) r
   same_left e none nothing = left_held false e none (none_due r.due nothing) r.live r.count r.due (subst (DueEnded (rows_after setup false s e book.rows)) (sym nothing) tt)
 
-  -- a connection is opened: a request that isn't whole goes out on it
+  -- a connection is opened for a stream, or given to it: a request that isn't whole goes out on it
+  module _ (act : Act) (stream k : ℕ) (stage : Stage) (of_stream : (id : ℕ) → IsDuePart r.due id → stream ≡ id) (ended : IsEnded book.rows stream stage) where
+    abbrev rows_now : List Row
+    rows_now = rows_after setup false s (Did act) book.rows
+
+    abbrev goes_out : List Held
+    goes_out = held_with stream (if is_whole stage then None else Some (Going k stage)) r.held
+
+    -- the stream for which it was due is held now, if its items go on
+    own_out : (id : ℕ) → stream ≡ id → (find rows_now id).brief.begun ≡ true → (find rows_now id).brief.over ≡ false → IsHeld id goes_out
+    own_out id same begun over = by (is_whole stage) refl
+      where
+        by : (b : Bool) → is_whole stage ≡ b → IsHeld id (held_with stream (if b then None else Some (Going k stage)) r.held)
+        by true is =
+            let go = back false (Did act) id begun over in
+            absurd (ended is (ap (λ n. (find book.rows n).brief.begun) same ∙ or_none (find book.rows id).brief.begun (sym go.begun ∙ begun)) (ap (λ n. (find book.rows n).brief.over) same ∙ go.not_over))
+        by false is = subst (λ n. IsHeld n (held_with stream (Some (Going k stage)) r.held)) same (held_so stream (Going k stage) r.held)
+
+    other_out : (id : ℕ) → (stream ≡ id → ⊥) → (find rows_now id).brief.begun ≡ true → (find rows_now id).brief.over ≡ false → IsHeld id goes_out
+    other_out id apart begun over =
+        same_held id r.held goes_out (held_beside stream id (if is_whole stage then None else Some (Going k stage)) r.held apart)
+        (was_held false (Did act) id (λ part. apart (of_stream id part)) begun over refl)
+
+    parts_out : (id : ℕ) (h : Held) → held_of id goes_out ≡ Some h → IsPart h.way
+    parts_out id h found = elim (eqb_tells stream id) [
+      | inl same ↦ part_if (is_whole stage) (Going k stage) h.way (held_now stream (if is_whole stage then None else Some (Going k stage)) r.held h (ap (λ n. held_of n goes_out) same.1 ∙ found)) (λ part. part)
+      | inr apart ↦ before.parts id h (sym (held_beside stream id (if is_whole stage then None else Some (Going k stage)) r.held apart.1) ∙ found)
+    ]
+
+    started : (live : List Line) (due : Due) (count : ℕ) → DueEnded rows_now due → AllGoOn rows_now (record { held = goes_out; live = live; due = due; count = count })
+    started live due count ended_now = record {
+      awaited = λ id begun over. elim (eqb_tells stream id) [ inl same ↦ inl (own_out id same.1 begun over) | inr apart ↦ inl (other_out id apart.1 begun over) ];
+      no_cause = none_caused false (Did act);
+      parts = parts_out;
+      due = ended_now;
+    }
+
+  -- one is opened
   opened_one : (k route : ℕ) → requests.MayOpen r k route → AllGoOn (rows_after setup false s (Did (Open k route)) book.rows) (serving.after setup behind r (serving.Move.Acts (Open k route)))
-  opened_one k route may = subst (λ (due : Due). AllGoOn then_rows (record { held = held_opened due k r.held; live = serving.live_acted r.live due (Open k route); due = serving.due_opened due k; count = suc r.count })) (sym may.due) opened
-    where
-      then_rows : List Row
-      then_rows = rows_after setup false s (Did (Open k route)) book.rows
+  opened_one k route may =
+      subst (λ (due : Due). AllGoOn (rows_after setup false s (Did (Open k route)) book.rows) (record { held = held_opened due k r.held; live = serving.live_acted r.live due (Open k route); due = serving.due_opened due k; count = suc r.count })) (sym may.due)
+      (started (Open k route) may.stream k may.stage (λ id part. (subst (λ (due : Due). IsDuePart due id) may.due part).0) (subst (DueEnded book.rows) may.due before.due) _ (ToSend k may.text) (suc r.count) tt)
 
-      way : Way
-      way = Going k may.stage
-
-      now_held : List Held
-      now_held = held_with may.stream (if is_whole may.stage then None else Some way) r.held
-
-      ended : DueEnded book.rows (ToOpen may.stream route may.text may.stage)
-      ended = subst (DueEnded book.rows) may.due before.due
-
-      -- the stream for which it was due is held now, if its items go on
-      own : (id : ℕ) → may.stream ≡ id → (find then_rows id).brief.begun ≡ true → (find then_rows id).brief.over ≡ false → IsHeld id now_held
-      own id same begun over = by (is_whole may.stage) refl
-        where
-          by : (b : Bool) → is_whole may.stage ≡ b → IsHeld id (held_with may.stream (if b then None else Some way) r.held)
-          by true is =
-              let go = back false (Did (Open k route)) id begun over in
-              absurd (ended is (ap (λ n. (find book.rows n).brief.begun) same ∙ or_none (find book.rows id).brief.begun (sym go.begun ∙ begun)) (ap (λ n. (find book.rows n).brief.over) same ∙ go.not_over))
-          by false is = subst (λ n. IsHeld n (held_with may.stream (Some way) r.held)) same (held_so may.stream way r.held)
-
-      other : (id : ℕ) → (may.stream ≡ id → ⊥) → (find then_rows id).brief.begun ≡ true → (find then_rows id).brief.over ≡ false → IsHeld id now_held
-      other id apart begun over =
-          same_held id r.held now_held (held_beside may.stream id (if is_whole may.stage then None else Some way) r.held apart)
-          (was_held false (Did (Open k route)) id (λ part. apart (subst (λ (due : Due). IsDuePart due id) may.due part).0) begun over refl)
-
-      parts_now : (id : ℕ) (h : Held) → held_of id now_held ≡ Some h → IsPart h.way
-      parts_now id h found = elim (eqb_tells may.stream id) [
-        | inl same ↦ part_if (is_whole may.stage) way h.way (held_now may.stream (if is_whole may.stage then None else Some way) r.held h (ap (λ n. held_of n now_held) same.1 ∙ found)) (λ part. part)
-        | inr apart ↦ before.parts id h (sym (held_beside may.stream id (if is_whole may.stage then None else Some way) r.held apart.1) ∙ found)
-      ]
-
-      opened : AllGoOn then_rows (record { held = now_held; live = record { k = k; stream = may.stream; whole = false } ∷ r.live; due = ToSend k may.text; count = suc r.count })
-      opened = record {
-        awaited = λ id begun over. elim (eqb_tells may.stream id) [ inl same ↦ inl (own id same.1 begun over) | inr apart ↦ inl (other id apart.1 begun over) ];
-        no_cause = none_caused false (Did (Open k route));
-        parts = parts_now;
-        due = tt;
-      }
+  -- octets go out, with which an idle one may be given to a stream
+  put_one : (k : ℕ) (octets : List ℕ) → requests.MayAct told r (ToUp k octets) → AllGoOn (rows_after setup false s (Did (ToUp k octets)) book.rows) (serving.after setup behind r (serving.Move.Acts (ToUp k octets)))
+  put_one k octets (inl send) =
+      subst (λ (due : Due). AllGoOn (rows_after setup false s (Did (ToUp k octets)) book.rows) (record { held = held_used due r.held; live = serving.lines_used due r.live; due = Nothing; count = r.count })) (sym send)
+      (left_held false (Did (ToUp k octets)) (λ id. refl) (λ id part. subst (λ (due : Due). IsDuePart due id) send part) r.live r.count Nothing tt)
+  put_one k octets (inr may) =
+      subst (λ (due : Due). AllGoOn (rows_after setup false s (Did (ToUp k octets)) book.rows) (record { held = held_used due r.held; live = serving.lines_used due r.live; due = Nothing; count = r.count })) (sym may.due)
+      (started (ToUp k octets) may.stream k may.stage (λ id part. (subst (λ (due : Due). IsDuePart due id) may.due part).0) (subst (DueEnded book.rows) may.due before.due) _ Nothing r.count tt)
 
   -- a connection is closed
   closed_one : (k : ℕ) → r.due ≡ Nothing → AllGoOn (rows_after setup false s (Did (Close k)) book.rows) (serving.after setup behind r (serving.Move.Acts (Close k)))
@@ -385,17 +407,25 @@ module _ (setup : Setup) (book : Book) (r : serving.State) (before : AllGoOn boo
   done (Takes noted next gain) served gains may open_yet = taken noted served gain gains may
   done (Breaks breach) served gains may open_yet = same_left (Breached breach) (λ id. refl) may.nothing
   done (Notes event) served gains may open_yet = same_left (Happened event) (λ id. refl) may.0.nothing
-  done (Hears event stream news whole) served gains may open_yet = kept_all false (Happened event) served (λ id. refl) _ r.count
-  done (Fails (UpFailed k) stream whole) served gains may open_yet = kept_dropped true (Happened (UpFailed k)) served (λ id. refl) may.0.nothing k _ r.count
-  done (Fails (Client piece) stream whole) served gains may open_yet = kept_all true (Happened (Client piece)) served (λ id. refl) _ r.count
-  done (Fails ClientEnd stream whole) served gains may open_yet = kept_all true (Happened ClientEnd) served (λ id. refl) _ r.count
-  done (Fails (ClientTook count) stream whole) served gains may open_yet = kept_all true (Happened (ClientTook count)) served (λ id. refl) _ r.count
-  done (Fails (Up k piece) stream whole) served gains may open_yet = kept_all true (Happened (Up k piece)) served (λ id. refl) _ r.count
-  done (Fails (UpEnd k) stream whole) served gains may open_yet = kept_all true (Happened (UpEnd k)) served (λ id. refl) _ r.count
-  done (Fails (UpTook k count) stream whole) served gains may open_yet = kept_all true (Happened (UpTook k count)) served (λ id. refl) _ r.count
+  done (Hears event stream news heard) served gains may open_yet = kept_all false (Happened event) served (λ id. refl) _ r.count
+  done (Fails (UpFailed k) stream heard) served gains may open_yet = kept_dropped true (Happened (UpFailed k)) served (λ id. refl) may.0.nothing k _ r.count
+  done (Fails (Client piece) stream heard) served gains may open_yet = kept_all true (Happened (Client piece)) served (λ id. refl) _ r.count
+  done (Fails ClientEnd stream heard) served gains may open_yet = kept_all true (Happened ClientEnd) served (λ id. refl) _ r.count
+  done (Fails (ClientTook count) stream heard) served gains may open_yet = kept_all true (Happened (ClientTook count)) served (λ id. refl) _ r.count
+  done (Fails (Up k piece) stream heard) served gains may open_yet = kept_all true (Happened (Up k piece)) served (λ id. refl) _ r.count
+  done (Fails (UpEnd k) stream heard) served gains may open_yet = kept_all true (Happened (UpEnd k)) served (λ id. refl) _ r.count
+  done (Fails (UpTook k count) stream heard) served gains may open_yet = kept_all true (Happened (UpTook k count)) served (λ id. refl) _ r.count
+  done (Idles (Client piece)) served gains may open_yet = same_left (Happened (Client piece)) (λ id. refl) may.0.nothing
+  done (Idles ClientEnd) served gains may open_yet = same_left (Happened ClientEnd) (λ id. refl) may.0.nothing
+  done (Idles (ClientTook count)) served gains may open_yet = same_left (Happened (ClientTook count)) (λ id. refl) may.0.nothing
+  done (Idles (Up k [])) served gains may open_yet = kept_all false (Happened (Up k [])) served (λ id. refl) _ r.count
+  done (Idles (Up k (octet ∷ octets))) served gains may open_yet = kept_all false (Happened (Up k (octet ∷ octets))) served (λ id. refl) _ r.count
+  done (Idles (UpEnd k)) served gains may open_yet = kept_all false (Happened (UpEnd k)) served (λ id. refl) _ r.count
+  done (Idles (UpFailed k)) served gains may open_yet = kept_dropped false (Happened (UpFailed k)) served (λ id. refl) may.0.nothing k _ r.count
+  done (Idles (UpTook k count)) served gains may open_yet = same_left (Happened (UpTook k count)) (λ id. refl) may.0.nothing
   done (Sends noted next) served gains may open_yet = kept_all false (Sent noted) served (λ id. refl) r.live r.count
   done (Goes noted item part next) served gains may open_yet = kept_all false (Sent noted) served (λ id. refl) r.live r.count
   done (Acts (Open k route)) served gains may open_yet = opened_one k route may
-  done (Acts (ToUp k octets)) served gains may open_yet = left_held false (Did (ToUp k octets)) (λ id. refl) (λ id part. subst (λ (due : Due). IsDuePart due id) may part) r.live r.count Nothing tt
+  done (Acts (ToUp k octets)) served gains may open_yet = put_one k octets may
   done (Acts (Close k)) served gains may open_yet = closed_one k may.nothing
   done (Acts CloseClient) served gains may open_yet = absurd (open_yet refl)

@@ -7,12 +7,11 @@ use Rattle.model.specs.Malformed.{is_begun}
 use Rattle.model.specs.Courses.{course, items}
 use Rattle.model.specs.Setup.{Setup}
 use Rattle.model.specs.Tapes.{Entry, sent}
-use Rattle.model.specs.Available.{items_on, IsIn}
+use Rattle.model.specs.Available.{items_on}
 use Rattle.model.specs.Deliveries.{Delivery}
 use Rattle.model.specs.Known.{Known}
 use Rattle.model.specs.Causes.{Cause}
 use Rattle.model.specs.Lifetimes.{is_active}
-use Rattle.model.proofs.ExchangeLaws.{none_kept}
 use Rattle.model.proofs.HeadLaws.{out_by_read}
 use Rattle.conduct.specs.Summary.{Stream as Conducted, summary_of, stream_of}
 use Rattle.conduct.specs.Rule.{known_of}
@@ -48,7 +47,7 @@ module _ (setup : Setup) (run : List Move) (s : State) (stands : Stands setup ru
   offering =
       subst (λ (x : State). Offering known t x.offers) stands.is
       (subst (λ (u : List Entry). Offering known u (state_of setup run).offers) (offers_tape setup run)
-      (placed known (offers_of setup run) (offers_may setup run stands.allowed) (offers_right known run (known_so setup (conducts run)) stands.allowed) (offers_told known run (so known refl (known_so setup (conducts run))))).1.offering)
+      (placed known (offers_of setup run) (offers_may setup run stands.allowed) (offers_right known run (known_so setup (conducts run)) stands.allowed) (offers_told known run (known_so setup (conducts run)) (so known refl (known_so setup (conducts run))))).1.offering)
 
   pub told : conduct.IsTold s.desk.book (summary_of known t)
   told =
@@ -82,7 +81,7 @@ module _ (setup : Setup) (run : List Move) (s : State) (stands : Stands setup ru
     | inl offered ↦ elim offered [
       | inl replied ↦ absurd (let no : None ≡ Some replied.cause = sym caused ∙ replied.has_cause in cc)
       | inr passed ↦ (
-          let it = serving.given passed.o (subst (IsIn passed.o) (none_kept known t serving.off serving.in_time) passed.given.is_opened) in
+          let it = serving.given passed.o passed.given.is_opened in
           begun_by it.head (subst (λ n. HasHead (items known n t) it.head) passed.given.is_given it.has_head))
     ]
     | inr none ↦ absurd (let no : false ≡ true = ap (λ (d : Delivery). is_some d.head) (sym none.nothing_read) ∙ read_out in cc)

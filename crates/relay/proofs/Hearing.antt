@@ -1,29 +1,32 @@
--- What an answer makes of an upstream's octets, and of the end of its connection, is so: the news, whether the response is whole, whether it failed.
+-- What an answer makes of an upstream's octets, and of the end of its connection, is so: the news, whether the response is whole and leaves the
+-- connection to be kept, whether it failed.
 use Rattle.std.proofs.Common.{◌≡◌, ℕ, ◌<◌, ◌≤◌, ◌⊎◌, Bool, true, false, ◌&&◌, ◌==◌, ◌||◌, if◌then◌else◌, List, [], ◌∷◌, ◌++◌, append-nil, length, Some, refl, sym, ◌∙◌, ap, subst, inl, inr}
 use Rattle.std.proofs.lemmas.Bool.{eq-eqb}
 use Rattle.std.proofs.lemmas.List.Folds.{list_any-append}
 use Rattle.model.specs.Messages.{Item}
 use Rattle.model.specs.Logs.{Event}
-use Rattle.model.specs.Logs.Event.{Up, UpEnd}
+use Rattle.model.specs.Logs.Event.{Up, UpEnd, UpFailed}
 use Rattle.model.specs.ResponseHeads.{longest_section}
 use Rattle.model.specs.Setup.{Passing}
 use Rattle.model.specs.Setup.Passing.{Whole}
 use Rattle.model.specs.Tapes.{Entry}
 use Rattle.model.specs.Tapes.Entry.{Happened}
-use Rattle.model.specs.Openings.{Opened, opens, exchanges, exchange_on, given, AreNumbered, AreApart}
+use Rattle.model.specs.Openings.{Opened, exchanges, exchange_on, given, AreApart}
 use Rattle.model.specs.Available.{heard_by, ended_by, IsIn}
 use Rattle.model.specs.Known.{Known}
 use Rattle.model.specs.Courses.{course, carried, items, interrupts, new_cause}
 use Rattle.model.specs.ErrorTable.{fault_with}
 use Rattle.model.specs.Responses.{IsComplete}
 use Rattle.model.specs.Failures.{IsJudged}
+use Rattle.model.specs.Idle.{is_asked_for_head, IsAllHeard, LeavesOpen, MayBeKept}
+use Rattle.model.specs.Idle as idle
 use Rattle.model.specs.Offers.{is_to_head, IsGiven}
-use Rattle.model.proofs.DeliveryReadings.{one_connection, one_number}
+use Rattle.model.proofs.DeliveryReadings.{one_connection}
 use Rattle.model.proofs.PastLaws.{heard_own}
-use Rattle.model.proofs.AloneLaws.{newest_is}
 use Rattle.h1_reader.specs.HeadSizes.{field_octets}
 use Rattle.h1_reader.specs.Parts.{Part}
 use Rattle.h1_reader.specs.Standing.{Stands, Hears, Breaks, IsEnd, is_end, is_done}
+use Rattle.h1_reader.specs.Keeps.{Knows, Learns}
 use Rattle.h1_reader.specs.declared.reader.Ended.TheVariants.{Complete, Short}
 use Rattle.h1_reader.proofs.Telling.{done, not_done}
 use Rattle.offering.specs.Shown.{Tells}
@@ -34,10 +37,12 @@ use Rattle.read_answers.proofs.Reading.{hears_news}
 use Rattle.read_answers.proofs.Ending.{ends_news}
 use Rattle.read_answers.proofs.Judging as judging
 use Rattle.answers.specs.Waiting.{Answer, passing_in, limit_in, Waits}
-use Rattle.answers.specs.Hearing.{IsTooLong}
+use Rattle.answers.specs.Hearing.{IsTooLong, LeavesOpenWith, NeverOpenWith}
 use Rattle.answers.specs.declared.answer.Passing.{Passing as Way}
 use Rattle.answers.specs.declared.answer.Passing.TheVariants as way
-use Rattle.policy.specs.Answered.{IsWholeBy}
+use Rattle.serving.specs.Lines.Heard.{Partly, Finished}
+use Rattle.policy.specs.Answered.{IsHeardBy, LeavesIdle}
+use Rattle.policy.proofs.Verdicts.{at_end}
 use Rattle.relay.specs.Hearing.{IsHeard}
 
 -- an event leaves the items of a stream
@@ -61,29 +66,28 @@ ended_own k t =
 done_behind : (parts added : List Part) → is_done parts ≡ false → is_done (parts ++ added) ≡ is_done added
 done_behind parts added none = list_any-append is_end parts added ∙ ap (λ b. b || is_done added) none
 
-module _ (known : Known) (t : List Entry) (k stream : ℕ) (answer : Answer) (o : Opened) (there : IsIn o (opens t)) (number : o.k ≡ k) (of : o.stream ≡ stream) (same_exchanges : exchanges t ≡ opens t) (numbered : AreNumbered (opens t)) (apart : AreApart (opens t)) (heard_so : IsHeard known t k answer)
-    (open_yet : ended_by (exchange_on k t) t ≡ false) where
+-- an event asks for nothing
+asked_behind : (known : Known) (t : List Entry) (o : Opened) (event : Event) → is_asked_for_head known o (Happened event ∷ t) ≡ is_asked_for_head known o t
+asked_behind known t o event = ap is_to_head (items_behind_event known t event o.stream)
+
+module _ (known : Known) (t : List Entry) (k stream : ℕ) (answer : Answer) (there : IsIn (exchange_on k t) (exchanges t)) (of_stream : given k (exchanges t) ≡ stream) (apart : AreApart (exchanges t)) (heard_so : IsHeard known t k answer) (open_yet : ended_by (exchange_on k t) t ≡ false) where
   abbrev passing : Passing
   passing = known.setup.passing
 
-  -- what the connection was opened for is its newest exchange
+  -- the newest exchange of the connection
   abbrev own : Opened
   own = exchange_on k t
 
-  newest : own ≡ o
-  newest = newest_is t same_exchanges numbered k o there number
-
   -- the only one of its stream
   only : (p : Opened) → IsGiven t stream p → own ≡ p
-  only p g = newest ∙ sym (one_connection (opens t) p o apart (subst (IsIn p) same_exchanges g.is_opened) there (g.is_given ∙ sym of))
+  only p g = one_connection (exchanges t) own p apart there g.is_opened (of_stream ∙ sym g.is_given)
 
-  -- and the only one with its number
-  only_of : (p : Opened) → IsIn p (opens t) → p.k ≡ k → own ≡ p
-  only_of p i e = newest ∙ sym (one_number (opens t) p o numbered i there (e ∙ sym number))
-
-  -- it is for the stream
-  of_stream : given k (exchanges t) ≡ stream
-  of_stream = ap (λ (x : Opened). x.stream) newest ∙ of
+  -- what is so of the connection's text behind an event, and of whether its stream asks for a head, is so of what the reader was fed
+  back : (P : List ℕ → Bool → Bool → Type 0) (event : Event) (text : List ℕ) (ended : Bool) → heard_by own (Happened event ∷ t) ≡ text → ended_by own (Happened event ∷ t) ≡ ended → P text ended answer.reader.to_head → P (heard_by own (Happened event ∷ t)) (ended_by own (Happened event ∷ t)) (is_asked_for_head known own (Happened event ∷ t))
+  back P event text ended same_text same_end is =
+      subst (λ h. P (heard_by own (Happened event ∷ t)) (ended_by own (Happened event ∷ t)) h) (heard_so.asked ∙ sym (asked_behind known t own event))
+      (subst (λ b. P (heard_by own (Happened event ∷ t)) b answer.reader.to_head) (sym same_end)
+      (subst (λ x. P x ended answer.reader.to_head) (sym same_text) is))
 
   -- the request asks for a head alone or doesn't
   to_head : answer.reader.to_head ≡ is_to_head (items known stream t)
@@ -107,31 +111,28 @@ module _ (known : Known) (t : List Entry) (k stream : ℕ) (answer : Answer) (o 
     stands_now : Stands (heard_by own behind) (heard_so.parts ++ added) new.reader
     stands_now = subst (λ x. Stands x (heard_so.parts ++ added) new.reader) (sym (heard_own k octets t)) (hears.stands (heard_by own t) heard_so.parts heard_so.stands)
 
-    -- what holds of all that was heard holds of the connection's
-    same_heard : (P : List ℕ → Bool → Bool → Type 0) (p : Opened) → IsIn p (opens t) → p.k ≡ k → P (heard_by own behind) false new.reader.to_head → P (heard_by p behind) (ended_by p behind) (is_to_head (items known p.stream behind))
-    same_heard P p i e holds =
-        subst (λ (x : Opened). P (heard_by x behind) (ended_by x behind) (is_to_head (items known x.stream behind))) (only_of p i e)
-        (subst (λ n. P (heard_by own behind) (ended_by own behind) (is_to_head (items known n behind))) (sym of_stream)
-        (subst (λ (xs : List Item). P (heard_by own behind) (ended_by own behind) (is_to_head xs)) (sym (items_behind_event known t (Up k octets) stream))
-        (subst (λ b. P (heard_by own behind) b (is_to_head (items known stream t))) (sym open_yet)
-        (subst (λ h. P (heard_by own behind) false h) (hears.same ∙ to_head) holds))))
+    -- the response is whole
+    pub octets_whole : is_done added ≡ true → IsAllHeard known behind own
+    octets_whole is =
+        back (λ x b h. IsComplete x b h) (Up k octets) (heard_by own behind) false refl open_yet
+        (subst (IsComplete (heard_by own behind) false) hears.same (done (heard_by own behind) (heard_so.parts ++ added) new.reader stands_now (done_behind heard_so.parts added heard_so.goes_on ∙ is)))
 
-    -- whether the response is whole
-    pub octets_whole : (whole : Bool) → is_done added ≡ whole → IsWholeBy known t (Up k octets) whole
-    octets_whole true is p i e =
-        same_heard (λ x b h. IsComplete x b h) p i e (done (heard_by own behind) (heard_so.parts ++ added) new.reader stands_now (done_behind heard_so.parts added heard_so.goes_on ∙ is))
-    octets_whole false is p i e =
-        same_heard (λ x b h. IsComplete x b h → ⊥) p i e (not_done (heard_by own behind) (heard_so.parts ++ added) new.reader stands_now (done_behind heard_so.parts added heard_so.goes_on ∙ is))
+    -- or isn't
+    pub octets_partly : is_done added ≡ false → IsHeardBy known t (Up k octets) Partly
+    octets_partly is =
+        back (λ x b h. IsComplete x b h → ⊥) (Up k octets) (heard_by own behind) false refl open_yet
+        (subst (λ h. IsComplete (heard_by own behind) false h → ⊥) hears.same (not_done (heard_by own behind) (heard_so.parts ++ added) new.reader stands_now (done_behind heard_so.parts added heard_so.goes_on ∙ is)))
 
     -- the answer doesn't fail where its body isn't too long, and does where it is
     pub octets_judged : (passing ≡ Whole → length (body_of (heard_so.parts ++ added)) ≤ known.setup.max_response) → IsJudged known t (Up k octets) false
     octets_judged fits = judging.goes_on known t k octets heard_so.parts added answer.reader new.reader heard_so.asked heard_so.stands hears fits
 
     -- what is kept then stands for all that was heard
-    pub octets_heard : length new.reader.held.octets ≤ longest_section → field_octets new.reader.held.connections ≤ longest_section → is_done added ≡ false → new.way ≡ answer.way → Waits (passing_in new.way) (heard_so.parts ++ added) new → IsHeard known behind k new
-    octets_heard short named goes_on same waits = record {
+    pub octets_heard : Learns answer.reader octets new.reader → length new.reader.held.octets ≤ longest_section → field_octets new.reader.held.connections ≤ longest_section → is_done added ≡ false → new.way ≡ answer.way → Waits (passing_in new.way) (heard_so.parts ++ added) new → IsHeard known behind k new
+    octets_heard learns short named goes_on same waits = record {
       parts = heard_so.parts ++ added;
       stands = stands_now;
+      knows = subst (λ x. Knows x new.reader) (sym (heard_own k octets t)) (learns (heard_by own t) heard_so.parts heard_so.stands heard_so.knows);
       short = short;
       few_named = named;
       goes_on = done_behind heard_so.parts added heard_so.goes_on ∙ goes_on;
@@ -139,6 +140,18 @@ module _ (known : Known) (t : List Entry) (k stream : ℕ) (answer : Answer) (o 
       asked = hears.same ∙ heard_so.asked ∙ ap is_to_head (sym (items_behind_event known t (Up k octets) (given k (exchanges t))));
       set_up = record { passing = ap passing_in same ∙ heard_so.set_up.passing; limit = λ whole. ap limit_in same ∙ heard_so.set_up.limit whole };
     }
+
+  -- octets with which the response leaves its connection open, where connections are kept and the answer doesn't fail
+  pub octets_left : (octets : List ℕ) → LeavesOpenWith answer octets → known.setup.keep ≡ true → IsJudged known t (Up k octets) false → LeavesIdle known t k octets
+  octets_left octets leaves keeps judged = record {
+    keeps = keeps;
+    answered = subst (LeavesOpen (heard_by own t ++ octets)) heard_so.asked (leaves (heard_by own t) heard_so.parts heard_so.stands heard_so.knows heard_so.goes_on);
+    fits = λ long. judged (inr (subst (λ x. idle.IsTooLong known x (is_asked_for_head known own t)) (sym (heard_own k octets t)) long));
+  }
+
+  -- and with which it doesn't
+  pub octets_never : (octets : List ℕ) → NeverOpenWith answer octets → LeavesIdle known t k octets → ⊥
+  octets_never octets never leaves = never (heard_by own t) heard_so.parts heard_so.stands heard_so.knows (subst (LeavesOpen (heard_by own t ++ octets)) (sym heard_so.asked) leaves.answered)
 
   -- octets with which the answer fails
   pub octets_failed : (octets : List ℕ) → Breaks answer.reader octets ⊎ IsTooLong answer octets → IsJudged known t (Up k octets) true
@@ -153,6 +166,35 @@ module _ (known : Known) (t : List Entry) (k stream : ℕ) (answer : Answer) (o 
 
       most : limit_in answer.way ≡ Some known.setup.max_response → long.most ≡ known.setup.max_response
       most is = let same : Some long.most ≡ Some known.setup.max_response = sym long.limit ∙ is in cc
+
+  -- Where they break it the response isn't whole.
+  pub broken_partly : (octets : List ℕ) → Breaks answer.reader octets → IsHeardBy known t (Up k octets) Partly
+  broken_partly octets breaks =
+      back (λ x b h. IsComplete x b h → ⊥) (Up k octets) (heard_by own t ++ octets) false (heard_own k octets t) open_yet
+      (λ complete. breaks (heard_by own t) heard_so.parts heard_so.stands [] false (subst (λ x. IsComplete x false answer.reader.to_head) (sym (append-nil (heard_by own t ++ octets))) complete))
+
+  -- Where its body is too long with them it may be whole, and the connection can't be kept behind it.
+  pub long_finished : (octets : List ℕ) (long : IsTooLong answer octets) → is_done long.added ≡ true → IsHeardBy known t (Up k octets) Finished
+  long_finished octets long is = (whole, never (octets_failed octets (inr long)))
+    where
+      then_tape : List Entry
+      then_tape = Happened (Up k octets) ∷ t
+
+      whole : IsAllHeard known then_tape own
+      whole = octets_whole octets long.added (record answer { reader = long.new }) long.hears is
+
+      never : IsJudged known t (Up k octets) true → MayBeKept known then_tape own → ⊥
+      never (inl spoilt) kept =
+          spoilt [] (ended_by own then_tape)
+          (subst (λ x. IsComplete x (ended_by own then_tape) (is_asked_for_head known own t)) (sym (append-nil (heard_by own then_tape)))
+          (subst (IsComplete (heard_by own then_tape) (ended_by own then_tape)) (asked_behind known t own (Up k octets)) whole))
+      never (inr too_long) kept = kept.fits (subst (idle.IsTooLong known (heard_by own then_tape)) (sym (asked_behind known t own (Up k octets))) too_long)
+
+  -- What was heard before the connection fails is no whole response.
+  pub gone_partly : IsHeardBy known t (UpFailed k) Partly
+  gone_partly =
+      back (λ x b h. IsComplete x b h → ⊥) (UpFailed k) (heard_by own t) false refl open_yet
+      (not_done (heard_by own t) heard_so.parts answer.reader heard_so.stands heard_so.goes_on)
 
   -- ---- the end of the connection
 
@@ -172,23 +214,16 @@ module _ (known : Known) (t : List Entry) (k stream : ℕ) (answer : Answer) (o 
       (subst (λ e. Tells passing (heard_by own t) false (heard_by own t) e answer.reader.to_head (news_at_end passing heard_so.parts)) (sym ends_now) tells)) in
       subst (λ (x : Opened). Tells passing (heard_by x t) (ended_by x t) (heard_by x ended) (ended_by x ended) (is_to_head (items known stream t)) (news_at_end passing heard_so.parts)) (only p g) here
 
-  same_ended : (P : List ℕ → Bool → Bool → Type 0) (p : Opened) → IsIn p (opens t) → p.k ≡ k → P (heard_by own t) true answer.reader.to_head → P (heard_by p ended) (ended_by p ended) (is_to_head (items known p.stream ended))
-  same_ended P p i e holds =
-      subst (λ (x : Opened). P (heard_by x ended) (ended_by x ended) (is_to_head (items known x.stream ended))) (only_of p i e)
-      (subst (λ n. P (heard_by own t) (ended_by own ended) (is_to_head (items known n ended))) (sym of_stream)
-      (subst (λ (xs : List Item). P (heard_by own t) (ended_by own ended) (is_to_head xs)) (sym (items_behind_event known t (UpEnd k) stream))
-      (subst (λ b. P (heard_by own t) b (is_to_head (items known stream t))) (sym ends_now)
-      (subst (λ h. P (heard_by own t) true h) to_head holds))))
-
-  pub end_whole : IsEnd Complete answer.reader → IsWholeBy known t (UpEnd k) true
-  end_whole whole p i e = same_ended (λ x b h. IsComplete x b h) p i e (whole (heard_by own t) heard_so.parts heard_so.stands)
+  -- its response is whole with it, and the connection can't be kept
+  pub end_whole : IsEnd Complete answer.reader → IsHeardBy known t (UpEnd k) Finished
+  end_whole whole = at_end known t k (back (λ x b h. IsComplete x b h) (UpEnd k) (heard_by own t) true refl ends_now (whole (heard_by own t) heard_so.parts heard_so.stands))
 
   pub end_judged : IsEnd Complete answer.reader → IsJudged known t (UpEnd k) false
   end_judged whole = judging.ends known t k heard_so.parts answer.reader heard_so.asked heard_so.stands whole
 
   -- and where it is cut short with it
-  pub end_short : IsEnd Short answer.reader → IsWholeBy known t (UpEnd k) false × IsJudged known t (UpEnd k) true
+  pub end_short : IsEnd Short answer.reader → IsHeardBy known t (UpEnd k) Partly × IsJudged known t (UpEnd k) true
   end_short short = (
-    (λ p i e. same_ended (λ x b h. IsComplete x b h → ⊥) p i e (short (heard_by own t) heard_so.parts heard_so.stands)),
+    back (λ x b h. IsComplete x b h → ⊥) (UpEnd k) (heard_by own t) true refl ends_now (short (heard_by own t) heard_so.parts heard_so.stands),
     judging.ends_short known t k heard_so.parts answer.reader heard_so.asked heard_so.stands short,
   )

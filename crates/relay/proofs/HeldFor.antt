@@ -31,12 +31,13 @@ use Rattle.conduct.specs.Book.{Book, MayMove, desk_of, summary_in}
 use Rattle.conduct.proofs.Tidy.{desk_kept}
 use Rattle.serving.specs.State as serving
 use Rattle.serving.specs.Written.{IsWritten, IsAwaited}
-use Rattle.serving.specs.State.{Live as OpenOne, k_of, live_of, Way, Held, id_of, held_of, Due, is_whole}
+use Rattle.serving.specs.Lines.{k_of}
+use Rattle.serving.specs.State.{Way, Held, id_of, held_of, Due, is_whole}
 use Rattle.serving.specs.State.Way.{Waiting, Going, Dropped}
 use Rattle.serving.specs.State.Due.{Nothing}
 use Rattle.serving.proofs.Lists.{found_key}
 use Rattle.policy.specs.Moves.{Deed, Move, conduct_of, told_in}
-use Rattle.policy.specs.Moves.Deed.{Takes, Breaks, Notes, Hears, Fails, Sends, Goes, Acts}
+use Rattle.policy.specs.Moves.Deed.{Takes, Breaks, Notes, Hears, Fails, Idles, Sends, Goes, Acts}
 use Rattle.policy.specs.Moves.Move.{Does, Settles}
 use Rattle.policy.specs.State.{State, conducts, tape_of, summary_at, turns_of, state_of}
 use Rattle.policy.specs.Rule.{GainsIf, AllAllowed}
@@ -71,8 +72,9 @@ pub went_on : (setup : Setup) (run : List Move) (d : Deed) → MayMove (desk_of 
 went_on setup run (Takes noted next gain) may on = (or_parts _ _ may.allowed.turn.goes_on).0
 went_on setup run (Breaks breach) may on = (or_parts _ _ may.allowed.turn.goes_on).0
 went_on setup run (Notes event) may on = (or_parts _ _ may.allowed.turn.goes_on).0
-went_on setup run (Hears event stream news whole) may on = (or_parts _ _ may.allowed.turn.goes_on).0
-went_on setup run (Fails event stream whole) may on = (or_parts _ _ may.allowed.turn.goes_on).0
+went_on setup run (Hears event stream news heard) may on = (or_parts _ _ may.allowed.turn.goes_on).0
+went_on setup run (Fails event stream heard) may on = (or_parts _ _ may.allowed.turn.goes_on).0
+went_on setup run (Idles event) may on = (or_parts _ _ may.allowed.turn.goes_on).0
 went_on setup run (Sends noted next) may on = (or_parts (is_calming noted.frame) _ on).1
 went_on setup run (Goes noted item part next) may on = (or_parts (is_calming noted.frame) _ on).1
 went_on setup run (Acts act) may on = on
@@ -154,10 +156,11 @@ ends_behind keep parts ended text pieces trailers (Holding octet) octets part se
 ends_behind keep parts ended text pieces trailers Chunking octets part sending long = tt
 
 -- a request that waits, by its items
-waits_by : (items : List Item) (brief : Brief) (route : ℕ) (text : List ℕ) (stage : Stage) (body : List ℕ) → brief.declared ≡ declared items → brief.octets ≡ length (body_of items) → IsAwaited items text stage body → MayWait brief route text stage body
-waits_by items brief route text stage body declared_is octets_is a = record {
+waits_by : (keep : Bool) (items : List Item) (brief : Brief) (route : ℕ) (text : List ℕ) (stage : Stage) (body : List ℕ) → brief.declared ≡ declared items → brief.octets ≡ length (body_of items) → IsAwaited keep items text stage body → MayWait brief route text stage body
+waits_by keep items brief route text stage body declared_is octets_is a = record {
   part = part_of stage a.part;
   may_end = λ octets long. record {
+    keep = keep;
     parts = _;
     sending = a.sending;
     goes_on = a.part;
@@ -173,29 +176,30 @@ waits_by items brief route text stage body declared_is octets_is a = record {
 }
 
 -- a request that goes out, by its items
-goes_by : (items : List Item) (brief : Brief) (text : List ℕ) (stage : Stage) → brief.declared ≡ declared items → brief.octets ≡ length (body_of items) → is_whole stage ≡ false → IsWritten items text stage → MayGoOn brief stage
-goes_by items brief text stage declared_is octets_is part w = record {
+goes_by : (keep : Bool) (items : List Item) (brief : Brief) (text : List ℕ) (stage : Stage) → brief.declared ≡ declared items → brief.octets ≡ length (body_of items) → is_whole stage ≡ false → IsWritten keep items text stage → MayGoOn brief stage
+goes_by keep items brief text stage declared_is octets_is part w = record {
   part = part;
   parts = parts_of w.head;
   text = text;
   pieces = w.pieces;
+  keep = keep;
   sending = open_sending;
   counted = counted;
   declared = sent_declared;
   may_push = λ octets within.
-      room_to_push false (parts_of w.head) false text w.pieces stage (length octets) open_sending not_so
+      room_to_push keep (parts_of w.head) false text w.pieces stage (length octets) open_sending not_so
       (has_room (parts_of w.head).length w.pieces (length octets) (same is_within (length octets) ∙ within));
   full = λ octets long.
       told_length (parts_of w.head).length (concat w.pieces ++ octets)
       (ap (λ n. has_length (parts_of w.head).length n) (length-append (concat w.pieces) octets) ∙ same has_length (length octets) ∙ long);
-  may_end = λ octets long. ends_behind false (parts_of w.head) false text w.pieces [] stage octets not_so open_sending (same has_length (length octets) ∙ long);
+  may_end = λ octets long. ends_behind keep (parts_of w.head) false text w.pieces [] stage octets not_so open_sending (same has_length (length octets) ∙ long);
 }
   where
     not_so : stage ≡ Whole → ⊥
     not_so = not_whole stage part
 
-    open_sending : Sending false (parts_of w.head) false text w.pieces [] stage
-    open_sending = of_open_head false (parts_of w.head) w.ended text w.pieces _ stage not_so w.sending
+    open_sending : Sending keep (parts_of w.head) false text w.pieces [] stage
+    open_sending = of_open_head keep (parts_of w.head) w.ended text w.pieces _ stage not_so w.sending
 
     sent_declared : (parts_of w.head).length ≡ brief.declared
     sent_declared = sym (ap (λ (xs : List Item). declared xs) w.is) ∙ sym declared_is
@@ -238,27 +242,15 @@ module _ (setup : Setup) (run : List Move) (s : State) (stands : Stands setup ru
       brief = ap (λ (k : Kept). k.brief) (live_told known t s.desk.book told id (sym (active_told known t s.desk.book told id) ∙ begun_active s.desk.book.rows rows_so id begun))
 
       on : (way : Way) → IsOnWay known t s.requests id way → GoesBy (find s.desk.book.rows id).brief way
-      on (Waiting route text stage body) so = waits_by (items known id t) (find s.desk.book.rows id).brief route text stage body (ap (λ (b : Brief). b.declared) brief) (ap (λ (b : Brief). b.octets) brief) so.awaited
-      on (Going k stage) so = goes_by (items known id t) (find s.desk.book.rows id).brief (text_of k t s.requests.due) stage (ap (λ (b : Brief). b.declared) brief) (ap (λ (b : Brief). b.octets) brief) so.part so.written
+      on (Waiting route text stage body) so = waits_by setup.keep (items known id t) (find s.desk.book.rows id).brief route text stage body (ap (λ (b : Brief). b.declared) brief) (ap (λ (b : Brief). b.octets) brief) so.awaited
+      on (Going k stage) so = goes_by setup.keep (items known id t) (find s.desk.book.rows id).brief (text_of so.o t s.requests.due) stage (ap (λ (b : Brief). b.declared) brief) (ap (λ (b : Brief). b.octets) brief) so.part so.written
       on Dropped so = tt
 
   -- What goes out goes out on a connection that is open and is its stream's.
   pub goes_out : (id k : ℕ) (stage : Stage) → held_of id s.requests.held ≡ Some (record { id = id; way = Going k stage }) → IsOpenFor id k s.requests.live
-  goes_out id k stage found = elim ((sound known run s led).given way.o way.given.is_opened).lives [
-    | inl open_one ↦ record {
-      live = open_one.live;
-      found = at ∙ open_one.found;
-      number = found_key k_of k s.requests.live open_one.live (at ∙ open_one.found);
-      stream = open_one.same ∙ way.given.is_given;
-    }
-    | inr gone ↦ absurd (let no : ◌≡◌ {A = Option OpenOne} None (Some way.live.0) = sym gone.missing ∙ sym at ∙ way.live.1 in cc)
-  ]
-    where
-      way : IsGoing known t s.requests id k stage
-      way = (sound known run s led).held id (record { id = id; way = Going k stage }) found
-
-      at : live_of k s.requests.live ≡ live_of way.o.k s.requests.live
-      at = ap (λ n. live_of n s.requests.live) (sym way.number)
+  goes_out id k stage found =
+      let way : IsGoing known t s.requests id k stage = (sound known run s led).held id (record { id = id; way = Going k stage }) found in
+      record { line = way.line.0; found = way.line.1; number = found_key k_of k s.requests.live way.line.0 way.line.1; stream = way.line.2 }
 
   module _ (open_yet : s.desk.book.closed ≡ false) where
     -- All streams whose items go on are awaited.

@@ -1,10 +1,11 @@
 -- What is held of requests and what is on offer, behind an entry about one stream.
-use Rattle.std.proofs.Common.{◌≡◌, ℕ, Bool, true, false, ◌==◌, if◌then◌else◌, List, [], ◌∷◌, refl, sym, ◌∙◌, ap, inl, inr}
+use Rattle.std.proofs.Common.{◌≡◌, ℕ, Bool, true, false, ◌==◌, if◌then◌else◌, List, [], ◌∷◌, map, refl, sym, ◌∙◌, ap, inl, inr}
 use Rattle.std.proofs.lemmas.Bool.{eq-eqb}
 use Rattle.std.proofs.lemmas.Bool.Decides.{eqb_tells}
 use Rattle.offering.specs.State.{Kept, change, without as without_box}
 use Rattle.serving.specs.Told.{Told}
-use Rattle.serving.specs.State.{Held, id_of, without, kept}
+use Rattle.serving.specs.Lines.{without}
+use Rattle.serving.specs.State.{Held, id_of, kept, drop_from}
 
 -- ---- requests
 
@@ -12,6 +13,21 @@ use Rattle.serving.specs.State.{Held, id_of, without, kept}
 abbrev pub AreServed : Told → List Held → Type 0
 AreServed told [] = Unit {0}
 AreServed told (h ∷ hs) = (told.served h.id ≡ true) × AreServed told hs
+
+-- so by another that tells the same of them
+pub served_by : (a b : Told) → ((id : ℕ) → b.served id ≡ a.served id) → (hs : List Held) → AreServed a hs → AreServed b hs
+served_by a b same [] are = tt
+served_by a b same (h ∷ hs) are = (same h.id ∙ are.0, served_by a b same hs are.1)
+
+-- and where what goes out on a connection is dropped
+pub served_dropped : (told : Told) (k : ℕ) (hs : List Held) → AreServed told hs → AreServed told (map (drop_from k) hs)
+served_dropped told k [] are = tt
+served_dropped told k (h ∷ hs) are = (are.0, served_dropped told k hs are.1)
+
+-- they all stay
+pub kept_served : (told : Told) (hs : List Held) → AreServed told hs → kept told hs ≡ hs
+kept_served told [] are = refl
+kept_served told (h ∷ hs) are = ap (λ b. if b then h ∷ kept told hs else kept told hs) are.0 ∙ ap (λ (xs : List Held). h ∷ xs) (kept_served told hs are.1)
 
 flipped : (a b : ℕ) → (a == b) ≡ false → (b == a) ≡ false
 flipped a b apart = elim (eqb_tells b a) [ inl is ↦ absurd (let no : true ≡ false = sym (eq-eqb a b (sym is.1)) ∙ apart in cc) | inr other ↦ other.0 ]

@@ -23,8 +23,15 @@ pub mod Going
 pub mod HeldFor
 pub mod Newest
 pub mod Connected
+pub mod Older
 pub mod Waits
 pub mod Halves
 pub mod Heads
 pub mod Starting
+pub mod Idles
+pub mod Idled
+pub mod Giving
+pub mod Used
+pub mod Took
+pub mod Verdicts
 pub mod Crowding

@@ -2,39 +2,47 @@
 use Rattle.std.proofs.Common.{◌≡◌, ℕ, ◌==◌, if◌then◌else◌, Bool, true, false, List, [], ◌∷◌, map, Option, Some, None, refl, sym, ap, ◌∙◌}
 use Rattle.std.specs.Prelude.{option_map}
 use Rattle.answers.specs.Waiting.{Answer}
-use Rattle.serving.specs.State.{Live, k_of, live_of, find, without, answered}
+use Rattle.serving.specs.Lines as serving
+use Rattle.serving.specs.Lines.{Line, Heard, k_of, line_of, find, without, with_answer, given_to, answer_by, idle_beside, lines_heard, lines_given}
 use Rattle.serving.specs.Told.{Told}
 use Rattle.serving.specs.Rule.{is_done}
-use Rattle.upstreams.specs.Connections.{Connection, number_of, lives, whole_at, answer_at}
+pub use Rattle.upstreams.proofs.Idling.{lives_same}
+use Rattle.upstreams.specs.Connections.{Connection, number_of, lives, marked_at, heard_at, given_at, answer_at}
 
 -- ---- what is found
 
-pub lives_found : (k : ℕ) (cs : List Connection) → live_of k (lives cs) ≡ option_map (λ (c : Connection). c.live) (find number_of k cs)
+pub lives_found : (k : ℕ) (cs : List Connection) → line_of k (lives cs) ≡ option_map (λ (c : Connection). c.live) (find number_of k cs)
 lives_found k [] = refl
 lives_found k (c ∷ cs) = by (c.live.k == k) (lives_found k cs)
   where
-    by : (b : Bool) → live_of k (lives cs) ≡ option_map (λ (x : Connection). x.live) (find number_of k cs)
-        → (if b then Some c.live else live_of k (lives cs)) ≡ option_map (λ (x : Connection). x.live) (if b then Some c else find number_of k cs)
+    by : (b : Bool) → line_of k (lives cs) ≡ option_map (λ (x : Connection). x.live) (find number_of k cs)
+        → (if b then Some c.live else line_of k (lives cs)) ≡ option_map (λ (x : Connection). x.live) (if b then Some c else find number_of k cs)
     by true more = refl
     by false more = more
 
 -- an open connection of the rule is kept
-pub kept_open : (k : ℕ) (cs : List Connection) (live : Live) → live_of k (lives cs) ≡ Some live → (c : Connection) × (find number_of k cs ≡ Some c) × (c.live ≡ live)
-kept_open k cs live found = by (find number_of k cs) refl (sym (lives_found k cs) ∙ found)
+pub kept_open : (k : ℕ) (cs : List Connection) (line : Line) → line_of k (lives cs) ≡ Some line → (c : Connection) × (find number_of k cs ≡ Some c) × (c.live ≡ line)
+kept_open k cs line found = by (find number_of k cs) refl (sym (lives_found k cs) ∙ found)
   where
-    by : (o : Option Connection) → find number_of k cs ≡ o → option_map (λ (c : Connection). c.live) o ≡ Some live → (c : Connection) × (find number_of k cs ≡ Some c) × (c.live ≡ live)
-    by None none is = let no : ◌≡◌ {A = Option Live} None (Some live) = is in cc
-    by (Some c) was is = (c, was, (let same : c.live ≡ live = cc in same))
+    by : (o : Option Connection) → find number_of k cs ≡ o → option_map (λ (c : Connection). c.live) o ≡ Some line → (c : Connection) × (find number_of k cs ≡ Some c) × (c.live ≡ line)
+    by None none is = let no : ◌≡◌ {A = Option Line} None (Some line) = is in cc
+    by (Some c) was is = (c, was, (let same : c.live ≡ line = cc in same))
 
 -- ---- changes
 
-pub lives_whole : (k : ℕ) (cs : List Connection) → lives (map (whole_at k) cs) ≡ map (answered true k) (lives cs)
-lives_whole k [] = refl
-lives_whole k (c ∷ cs) = ap (λ ls. answered true k c.live ∷ ls) (lives_whole k cs)
+-- of a response it is told how far it is
+pub lives_marked : (k : ℕ) (progress : serving.Answer) (cs : List Connection) → lives (map (marked_at k progress) cs) ≡ map (with_answer k progress) (lives cs)
+lives_marked k progress [] = refl
+lives_marked k progress (c ∷ cs) = ap (λ ls. with_answer k progress c.live ∷ ls) (lives_marked k progress cs)
 
-pub lives_same : (f : Connection → Connection) → ((c : Connection) → (f c).live ≡ c.live) → (cs : List Connection) → lives (map f cs) ≡ lives cs
-lives_same f same [] = refl
-lives_same f same (c ∷ cs) = ap (λ l. l ∷ lives (map f cs)) (same c) ∙ ap (λ ls. c.live ∷ ls) (lives_same f same cs)
+-- and so is what was heard of it
+pub lives_heard : (k : ℕ) (heard : Heard) (cs : List Connection) → lives (heard_at k heard cs) ≡ lines_heard k heard (lives cs)
+lives_heard k heard cs = lives_marked k (answer_by (idle_beside k (lives cs)) heard) cs
+
+-- one is given to a stream
+pub lives_given : (k stream : ℕ) (answer : Answer) (cs : List Connection) → lives (map (given_at k stream answer) cs) ≡ lines_given k stream (lives cs)
+lives_given k stream answer [] = refl
+lives_given k stream answer (c ∷ cs) = ap (λ ls. given_to k stream c.live ∷ ls) (lives_given k stream answer cs)
 
 pub lives_closed : (k : ℕ) (cs : List Connection) → lives (without number_of k cs) ≡ without k_of k (lives cs)
 lives_closed k [] = refl

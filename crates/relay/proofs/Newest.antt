@@ -30,13 +30,14 @@ use Rattle.conduct.specs.Book.{Book, desk_of, summary_in, book_after}
 use Rattle.conduct.proofs.Rows.{ids_changed, over_stays}
 use Rattle.conduct.proofs.RowsKept.{opens_own}
 use Rattle.h1_writer.specs.Sending.{Stage}
+use Rattle.serving.specs.Lines.{least_idle}
 use Rattle.serving.specs.State as serving
 use Rattle.serving.specs.State.{Due, to_open, to_send}
-use Rattle.serving.specs.State.Due.{Nothing, ToOpen, ToSend}
+use Rattle.serving.specs.State.Due.{Nothing, ToOpen, ToUse, ToSend}
 use Rattle.serving.proofs.Standing.{IsWaiting}
 use Rattle.streams_kept.specs.Asked.{has}
 use Rattle.policy.specs.Moves.{Gain, Deed, Move, told_in}
-use Rattle.policy.specs.Moves.Deed.{Takes, Breaks, Notes, Hears, Fails, Sends, Goes, Acts}
+use Rattle.policy.specs.Moves.Deed.{Takes, Breaks, Notes, Hears, Fails, Idles, Sends, Goes, Acts}
 use Rattle.policy.specs.Moves.Move.{Does, Settles}
 use Rattle.policy.specs.State.{State, conducts, tape_of, summary_at, turns_of, state_of}
 use Rattle.policy.specs.Rule.{AllAllowed, AddsHead}
@@ -188,10 +189,11 @@ newest_now setup book noted new there = by (map (row_behind setup false (summary
 
 -- ---- along moves
 
--- A connection that is due is due for the newest stream.
+-- A connection that is due, a new one or an idle one, is due for the newest stream.
 abbrev DueNewest : List Row → Due → Type 0
 DueNewest rows Nothing = Unit {0}
 DueNewest rows (ToOpen stream route text stage) = IsNewest rows stream
+DueNewest rows (ToUse k stream text stage) = IsNewest rows stream
 DueNewest rows (ToSend k text) = Unit {0}
 
 none_newest : (rows : List Row) (due : Due) → due ≡ Nothing → DueNewest rows due
@@ -201,9 +203,10 @@ sent_newest : (rows : List Row) (k : ℕ) (text : List ℕ) → DueNewest rows (
 sent_newest rows k [] = tt
 sent_newest rows k (octet ∷ octets) = tt
 
-if_newest : (b : Bool) (rows : List Row) (stream route : ℕ) (text : List ℕ) (stage : Stage) → (b ≡ true → IsNewest rows stream) → DueNewest rows (to_open b stream route text stage)
-if_newest true rows stream route text stage newest = newest refl
-if_newest false rows stream route text stage newest = tt
+if_newest : (b : Bool) (idle : Option ℕ) (rows : List Row) (stream route : ℕ) (text : List ℕ) (stage : Stage) → (b ≡ true → IsNewest rows stream) → DueNewest rows (to_open b idle stream route text stage)
+if_newest true None rows stream route text stage newest = newest refl
+if_newest true (Some k) rows stream route text stage newest = newest refl
+if_newest false idle rows stream route text stage newest = tt
 
 module _ (known : Known) (streaming : known.setup.passing ≡ Streaming) (run : List Move) where
   abbrev setup : Setup
@@ -242,7 +245,7 @@ module _ (known : Known) (streaming : known.setup.passing ≡ Streaming) (run : 
       → DueNewest (book_behind (Takes noted next gain)).rows (due_behind (Takes noted next gain))
   taken noted next Gain.Nothing knows answered allowed on = none_newest _ r.due allowed.1.request.may.nothing
   taken noted next (Gain.Begins head ended route text stage) knows answered allowed on =
-      if_newest (serving.goes_now setup stage) _ noted.frame.id route text stage
+      if_newest (serving.goes_now setup stage) (least_idle route r.live) _ noted.frame.id route text stage
       (λ goes.
       newest_now setup before noted
       (not_there setup before noted (Block head ended) (desk_begun setup (conducts run)) (subst (λ (u : Summary). AddsHead setup u noted (Block head ended)) (told_same noted next (Gain.Begins head ended route text stage) allowed on) allowed.1.gains))
@@ -255,24 +258,37 @@ module _ (known : Known) (streaming : known.setup.passing ≡ Streaming) (run : 
   taken noted next (Gain.Drops item) knows answered allowed on = none_newest _ r.due allowed.1.request.may.0.nothing
 
   -- behind a frame that is sent the same streams were opened
+  opened_before : (noted : Noted) (other : ℕ) → has (book_after setup false before (Sent noted)).rows other ≡ true → has before.rows other ≡ true
+  opened_before noted other among = sym (ap (λ (ids : List ℕ). list_any (λ n. n == other) ids) (ids_changed setup false (summary_in before) (Sent noted) before.rows)) ∙ among
+
   still_newest : (noted : Noted) (due : Due) → DueNewest before.rows due → DueNewest (book_after setup false before (Sent noted)).rows due
   still_newest noted Nothing was = tt
   still_newest noted (ToSend k text) was = tt
   still_newest noted (ToOpen stream route text stage) was = λ other among apart.
-      was other (sym (ap (λ (ids : List ℕ). list_any (λ n. n == other) ids) (ids_changed setup false (summary_in before) (Sent noted) before.rows)) ∙ among) apart
+      was other (opened_before noted other among) apart
+  still_newest noted (ToUse k stream text stage) was = λ other among apart.
+      was other (opened_before noted other among) apart
 
   done : (d : Deed) → AreKnown known (conducts run) → AreAnswered known run → (allowed : AllAllowed setup (Does d ∷ run)) → (book_behind d).ends ≡ false → DueNewest before.rows r.due → DueNewest (book_behind d).rows (due_behind d)
   done (Takes noted next gain) knows answered allowed on was = taken noted next gain knows answered allowed on
   done (Breaks breach) knows answered allowed on was = none_newest _ r.due allowed.1.request.may.nothing
   done (Notes event) knows answered allowed on was = none_newest _ r.due allowed.1.request.may.0.nothing
-  done (Hears event stream news whole) knows answered allowed on was = none_newest _ r.due allowed.1.request.may.0.nothing
-  done (Fails (UpFailed k) stream whole) knows answered allowed on was = none_newest _ r.due allowed.1.request.may.0.nothing
-  done (Fails (Client piece) stream whole) knows answered allowed on was = none_newest _ r.due allowed.1.request.may.0.nothing
-  done (Fails ClientEnd stream whole) knows answered allowed on was = none_newest _ r.due allowed.1.request.may.0.nothing
-  done (Fails (ClientTook count) stream whole) knows answered allowed on was = none_newest _ r.due allowed.1.request.may.0.nothing
-  done (Fails (Up k piece) stream whole) knows answered allowed on was = none_newest _ r.due allowed.1.request.may.0.nothing
-  done (Fails (UpEnd k) stream whole) knows answered allowed on was = none_newest _ r.due allowed.1.request.may.0.nothing
-  done (Fails (UpTook k count) stream whole) knows answered allowed on was = none_newest _ r.due allowed.1.request.may.0.nothing
+  done (Hears event stream news heard) knows answered allowed on was = none_newest _ r.due allowed.1.request.may.0.nothing
+  done (Fails (UpFailed k) stream heard) knows answered allowed on was = none_newest _ r.due allowed.1.request.may.0.nothing
+  done (Fails (Client piece) stream heard) knows answered allowed on was = none_newest _ r.due allowed.1.request.may.0.nothing
+  done (Fails ClientEnd stream heard) knows answered allowed on was = none_newest _ r.due allowed.1.request.may.0.nothing
+  done (Fails (ClientTook count) stream heard) knows answered allowed on was = none_newest _ r.due allowed.1.request.may.0.nothing
+  done (Fails (Up k piece) stream heard) knows answered allowed on was = none_newest _ r.due allowed.1.request.may.0.nothing
+  done (Fails (UpEnd k) stream heard) knows answered allowed on was = none_newest _ r.due allowed.1.request.may.0.nothing
+  done (Fails (UpTook k count) stream heard) knows answered allowed on was = none_newest _ r.due allowed.1.request.may.0.nothing
+  done (Idles (Client piece)) knows answered allowed on was = none_newest _ r.due allowed.1.request.may.0.nothing
+  done (Idles ClientEnd) knows answered allowed on was = none_newest _ r.due allowed.1.request.may.0.nothing
+  done (Idles (ClientTook count)) knows answered allowed on was = none_newest _ r.due allowed.1.request.may.0.nothing
+  done (Idles (Up k [])) knows answered allowed on was = none_newest _ r.due allowed.1.request.may.0.nothing
+  done (Idles (Up k (octet ∷ octets))) knows answered allowed on was = none_newest _ r.due allowed.1.request.may.0.nothing
+  done (Idles (UpEnd k)) knows answered allowed on was = none_newest _ r.due allowed.1.request.may.0.nothing
+  done (Idles (UpFailed k)) knows answered allowed on was = none_newest _ r.due allowed.1.request.may.0.nothing
+  done (Idles (UpTook k count)) knows answered allowed on was = none_newest _ r.due allowed.1.request.may.0.nothing
   done (Sends noted next) knows answered allowed on was = still_newest noted r.due was
   done (Goes noted item part next) knows answered allowed on was = still_newest noted r.due was
   done (Acts (Open k route)) knows answered allowed on was = let may = allowed.1.request.may in subst (λ (due : Due). DueNewest (book_behind (Acts (Open k route))).rows (serving.due_opened due k)) (sym may.due) tt
@@ -288,10 +304,17 @@ newest known streaming (Does d ∷ run) knows answered allowed on =
     done known streaming run d knows.0 answered.0 allowed on (newest known streaming run knows.0 answered.0 allowed.0 (went_on known.setup run d allowed.1.conduct on))
 
 -- Where moves led, a connection that is due is due for the newest stream.
-pub due_newest : (setup : Setup) (run : List Move) (s : State) → Stands setup run s → AreSo setup run → setup.passing ≡ Streaming → (stream route : ℕ) (text : List ℕ) (stage : Stage) → s.requests.due ≡ ToOpen stream route text stage → IsNewest s.desk.book.rows stream
-due_newest setup run s stand so streaming stream route text stage due =
-    let led = own_led setup run s stand so in
-    let all : DueNewest s.desk.book.rows s.requests.due =
-    subst (λ (x : State). DueNewest x.desk.book.rows x.requests.due) stand.is
-    (newest (own setup run s stand so) streaming run led.knows led.answered stand.allowed (ap (λ (x : State). x.desk.book.ends) stand.is ∙ stand.goes_on)) in
-    subst (DueNewest s.desk.book.rows) due all
+module _ (setup : Setup) (run : List Move) (s : State) (stand : Stands setup run s) (so : AreSo setup run) (streaming : setup.passing ≡ Streaming) where
+  all_newest : DueNewest s.desk.book.rows s.requests.due
+  all_newest =
+      let led = own_led setup run s stand so in
+      subst (λ (x : State). DueNewest x.desk.book.rows x.requests.due) stand.is
+      (newest (own setup run s stand so) streaming run led.knows led.answered stand.allowed (ap (λ (x : State). x.desk.book.ends) stand.is ∙ stand.goes_on))
+
+  -- one that is to be opened
+  pub due_newest : (stream route : ℕ) (text : List ℕ) (stage : Stage) → s.requests.due ≡ ToOpen stream route text stage → IsNewest s.desk.book.rows stream
+  due_newest stream route text stage due = subst (DueNewest s.desk.book.rows) due all_newest
+
+  -- an idle one
+  pub used_newest : (k stream : ℕ) (text : List ℕ) (stage : Stage) → s.requests.due ≡ ToUse k stream text stage → IsNewest s.desk.book.rows stream
+  used_newest k stream text stage due = subst (DueNewest s.desk.book.rows) due all_newest

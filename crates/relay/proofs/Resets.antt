@@ -25,7 +25,8 @@ use Rattle.receiving.specs.Marks.{total}
 use Rattle.receiving.specs.State as receiving
 use Rattle.serving.specs.Told.{Told}
 use Rattle.serving.specs.State as serving
-use Rattle.serving.specs.State.{Held, id_of, without}
+use Rattle.serving.specs.Lines.{without}
+use Rattle.serving.specs.State.{Held, id_of}
 use Rattle.serving.specs.State.Due.{Nothing}
 use Rattle.streams_kept.specs.Asked.{has, is_active, changed}
 use Rattle.streams_kept.proofs.Changes.{same_ids}
@@ -47,7 +48,7 @@ use Rattle.policy.specs.Rule.{rooms_in}
 use Rattle.policy.specs.Steps.{told_by, told_behind, next, MayGoOn}
 use Rattle.policy.proofs.Going.{may_pay}
 use Rattle.policy.proofs.Stepping.{one_more}
-use Rattle.relay.specs.View.{View, Pending, GoBack, AreMarked, waiting_for, Leads}
+use Rattle.relay.specs.View.{View, Pending, GoBack, newest_in, AreMarked, waiting_for, Leads}
 use Rattle.relay.specs.Bringing.{OwnSegment}
 use Rattle.relay.proofs.Kept.{held_behind}
 use Rattle.relay.proofs.Where.{live_here}
@@ -245,15 +246,15 @@ module _ (setup : Setup) (kept : View) (pending : Pending) (rest : List Frame) (
 
     debt_then : then_state.windows.debt ≡ pending.shared + waiting_for id kept
     debt_then =
-        telling.drops kept.marks (rooms_in (told_by s) s) leads.marked.stand over_with_it id was_active
+        telling.drops (newest_in s) kept.marks (rooms_in (told_by s) s) leads.marked.stand over_with_it id was_active
         ∙ ap (λ n. s.windows.debt + n) dropped_is
         ∙ ap (λ n. n + waiting_for id kept) leads.keeps.credited.shared
 
-    marked_then : AreMarked setup.passing (marks.without id kept.marks) (rooms_in (told_by then_state) then_state)
+    marked_then : AreMarked setup.passing (newest_in then_state) (marks.without id kept.marks) (rooms_in (told_by then_state) then_state)
     marked_then =
-        subst (λ (ms : List Side). AreMarked setup.passing ms (rooms_in (told_by then_state) then_state)) left
-        (subst (AreMarked setup.passing (marks.unless_over over_with_it id kept.marks)) (sym (rooms_next setup run s leads.stands leads.so deed may (so_stays setup run deed tt leads.so)))
-        (marked_sent setup.passing kept.marks (rooms_in (told_by s) s) leads.marked (noted_of frame) over_with_it))
+        subst (λ (ms : List Side). AreMarked setup.passing (newest_in then_state) ms (rooms_in (told_by then_state) then_state)) left
+        (subst (AreMarked setup.passing (newest_in s) (marks.unless_over over_with_it id kept.marks)) (sym (rooms_next setup run s leads.stands leads.so deed may (so_stays setup run deed tt leads.so)))
+        (marked_sent setup.passing (newest_in s) kept.marks (rooms_in (told_by s) s) leads.marked (noted_of frame) over_with_it))
 
     -- they go back on other streams than this as before
     back_before : (other : ℕ) → GoBack new.inbound other → GoBack kept.inbound other

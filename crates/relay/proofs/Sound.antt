@@ -1,14 +1,14 @@
 -- What holds of a state to which moves led: what is kept of streams and of connections is of those that there are.
-use Rattle.std.proofs.Common.{◌≡◌, ℕ, suc, Bool, true, false, ◌&&◌, List, [], ◌∷◌, map, reverse, length, Option, Some, None, refl, sym, ◌∙◌, ap, subst, inl, inr}
+use Rattle.std.proofs.Common.{◌≡◌, ℕ, zero, suc, ◌<◌, Bool, true, false, ◌&&◌, List, [], ◌∷◌, map, reverse, Option, Some, None, refl, sym, ◌∙◌, ap, subst, arith}
 use Rattle.std.specs.Prelude.{is_none}
 use Rattle.model.specs.Messages.{Item}
 use Rattle.model.specs.Causes.{Cause}
 use Rattle.model.specs.Logs.{Event}
 use Rattle.model.specs.Tapes.{Entry}
-use Rattle.model.specs.Openings.{Opened, opens, last_stream, IsGivenNone}
+use Rattle.model.specs.Openings.{Opened, exchanges, exchange_on, given, last_stream, IsGivenNone}
 use Rattle.model.specs.Available.{IsIn}
 use Rattle.model.specs.Known.{Known}
-use Rattle.model.specs.Lifetimes.{active, is_active}
+use Rattle.model.specs.Lifetimes.{active, is_active, is_ended_by_client}
 use Rattle.model.specs.Courses.{items, upstream_of}
 use Rattle.model.specs.Malformed.{is_begun}
 use Rattle.conduct.specs.Summary.{Stream as Conducted, Summary}
@@ -17,17 +17,18 @@ use Rattle.conduct.specs.Rows.{find}
 use Rattle.conduct.specs.Book.{desk_of}
 use Rattle.conduct.proofs.Telling.{book_told, live_told}
 use Rattle.offering.specs.Sight.{IsRightOf, sight_in}
-use Rattle.offering.specs.Rule.{IsEventOf, OpensNext}
+use Rattle.offering.specs.Rule.{IsEventOf, BeginsNext}
 use Rattle.offering.specs.State.{Kept}
 use Rattle.offering.proofs.Counting as counting
 use Rattle.serving.specs.State as serving
-use Rattle.serving.specs.State.{Live, live_of}
+use Rattle.serving.specs.Lines.{Line, line_of}
 use Rattle.serving.specs.Rule as requests
-use Rattle.serving.specs.Connections.{IsOpenedFor}
-use Rattle.model.proofs.ExchangeLaws.{none_kept}
+use Rattle.serving.specs.Connections.{IsStarted, IsOpenedFor, IsUsedFor}
+use Rattle.model.proofs.ExchangeLaws.{open_exchange}
 use Rattle.serving.proofs.Clauses.{all_stand}
 use Rattle.serving.proofs.Standing as standing
-use Rattle.serving.proofs.Connections.{next_opened}
+use Rattle.serving.proofs.Connections.{next_opened, idle_used, earlier_ended}
+use Rattle.serving.proofs.Numbers.{none_zero}
 use Rattle.policy.specs.Moves.{Move, told_in}
 use Rattle.policy.specs.State.{State, conducts, tape_of, offers_of, turns_of, summary_at}
 use Rattle.policy.specs.Steps.{told_by}
@@ -37,6 +38,10 @@ use Rattle.policy.proofs.Telling.{all_moved, sight_right}
 use Rattle.policy.proofs.Placing.{offers_may, offers_right, offers_told, turns_may, turns_so}
 use Rattle.policy.proofs.Stepping.{before_is}
 use Rattle.relay.specs.Led.{IsLed}
+
+above_zero : (n : ℕ) → (n ≡ 0 → ⊥) → 0 < n
+above_zero zero none = absurd (none refl)
+above_zero (suc n) none = omega arith
 
 some_begun : (xs : List Item) → (xs ≡ [] → ⊥) → is_begun xs ≡ true
 some_begun [] some = absurd (some refl)
@@ -57,7 +62,7 @@ module _ (known : Known) (run : List Move) (s : State) (led : IsLed known run s)
   pub boxes : map (λ (k : Kept). k.id) s.offers.kept ≡ reverse (active_in (told_by s))
   boxes =
       ap (λ (x : State). map (λ (k : Kept). k.id) x.offers.kept) (sym led.stands.is)
-      ∙ counting.are_of_active known (offers_of known.setup run) (offers_may known.setup run led.stands.allowed) (offers_right known run led.knows led.stands.allowed) (offers_told known run led.answered)
+      ∙ counting.are_of_active known (offers_of known.setup run) (offers_may known.setup run led.stands.allowed) (offers_right known run led.knows led.stands.allowed) (offers_told known run led.knows led.answered)
       ∙ ap (λ (x : List Entry). reverse (active x)) (offers_tape known.setup run)
       ∙ ap (λ (xs : List ℕ). reverse xs) (sym (telling.live_told known run led.knows (all_moved known run led.stands.allowed)))
       ∙ ap (λ (u : Summary). reverse (active_in u)) told
@@ -73,54 +78,63 @@ module _ (known : Known) (run : List Move) (s : State) (led : IsLed known run s)
       subst (λ (x : State). standing.Stands known t x.requests) led.stands.is
       (subst (λ (x : List Entry). standing.Stands known x (serving.state_of known.setup (turns_of known.setup run))) (requests_tape known.setup run) stand)
 
-  -- no connection has a second exchange
-  given_opened : (sight_in (told_by s)).given ≡ opens t
-  given_opened = right.given ∙ none_kept known t stands.off stands.in_time
+  -- the stream that is kept with an open connection is the one that it was given to last
+  pub given_to : (k : ℕ) (line : Line) → line_of k s.requests.live ≡ Some line → given k (exchanges t) ≡ line.stream
+  given_to k line found = (stands.keeps.are_so k line found).stream
 
-  -- the stream that is kept with an open connection is the one that it was given to
-  pub given_to : (k : ℕ) (live : Live) → live_of k s.requests.live ≡ Some live → (o : Opened) × IsIn o (opens t) × (o.k ≡ k) × (o.stream ≡ live.stream)
-  given_to k live found =
-      let there = stands.there k live found in (
-        there.0,
-        there.1,
-        there.2,
-        elim (stands.given there.0 there.1).lives [
-          | inl l ↦ (let same : Some l.live ≡ Some live = sym l.found ∙ ap (λ n. live_of n s.requests.live) there.2 ∙ found in sym l.same ∙ ap (λ (x : Live). x.stream) (let is : l.live ≡ live = cc in is))
-          | inr gone ↦ absurd (let no : None ≡ Some live = sym gone.missing ∙ ap (λ n. live_of n s.requests.live) there.2 ∙ found in cc)
-        ],
-      )
-
-  -- An event of an open connection is of its stream, where something may come in.
-  pub event_of : requests.MayCome (told_in (told_by s)) s.requests → (event : Event) (live : Live) → live_of (upstream_of event) s.requests.live ≡ Some live → (told_in (told_by s)).served live.stream ≡ true → IsEventOf (sight_in (told_by s)) event live.stream
-  event_of may event live found served =
-      let given = given_to (upstream_of event) live found in
-      let parts = served_parts ((sight_in (told_by s)).active live.stream) ((sight_in (told_by s)).cause live.stream) served in
-      record { o = given.0; there = subst (IsIn given.0) (sym given_opened) given.1; is_given = given.3; number = given.2; active = parts.0; no_cause = parts.1 }
+  -- An event of an open connection is of its stream, where that is served.
+  pub event_of : (event : Event) (line : Line) → line_of (upstream_of event) s.requests.live ≡ Some line → (told_in (told_by s)).served line.stream ≡ true → IsEventOf (sight_in (told_by s)) event line.stream
+  event_of event line found served =
+      let parts = served_parts ((sight_in (told_by s)).active line.stream) ((sight_in (told_by s)).cause line.stream) served in
+      record { is_given = ap (given (upstream_of event)) right.given ∙ given_to (upstream_of event) line found; active = parts.0; no_cause = parts.1 }
     where
       served_parts : (a : Bool) (c : Option Cause) → (a && is_none c) ≡ true → (a ≡ true) × (c ≡ None)
       served_parts true None is = (refl, refl)
       served_parts true (Some cause) is = cc
       served_parts false c is = cc
 
-  -- The next connection is opened for the stream of the last frame.
-  pub opens_next : (k route : ℕ) → requests.MayOpen s.requests k route → OpensNext (sight_in (told_by s)) k
-  opens_next k route may =
-      let opened = opened_for (serving.state_of known.setup (turns_of known.setup run)) (ap (λ (x : State). x.requests) led.stands.is) (λ m. next_opened known (turns_of known.setup run) (turns_may known.setup run led.stands.allowed) (turns_so known run led.knows led.stands.allowed led.answered) k route m) in
+  -- an exchange begins for the stream of the last frame, on a connection that has a number
+  begins_for : (k : ℕ) → IsStarted known t → 0 < k → BeginsNext (sight_in (told_by s)) k
+  begins_for k started counted =
       let last : (sight_in (told_by s)).last ≡ last_stream t = right.last in
-      let is_live : is_active (last_stream t) t ≡ true = opened.in_time.active in
+      let is_live : is_active (last_stream t) t ≡ true = started.in_time.active in
       record {
         active = ap (λ n. (sight_in (told_by s)).active n) last ∙ right.active (last_stream t) ∙ is_live;
-        has_items = ap (λ n. (sight_in (told_by s)).has_items n) last ∙ begun (last_stream t) is_live opened.has_items;
-        no_cause = ap (λ n. (sight_in (told_by s)).cause n) last ∙ right.cause (last_stream t) is_live ∙ opened.in_time.no_cause;
-        first = subst (λ n. IsGivenNone n (sight_in (told_by s)).given) (sym last) (subst (λ (os : List Opened). IsGivenNone (last_stream t) os) (sym given_opened) opened.none_given);
-        next = opened.next ∙ ap (λ (os : List Opened). suc (length os)) (sym given_opened);
+        has_items = ap (λ n. (sight_in (told_by s)).has_items n) last ∙ begun (last_stream t) is_live started.has_items;
+        no_cause = ap (λ n. (sight_in (told_by s)).cause n) last ∙ right.cause (last_stream t) is_live ∙ started.in_time.no_cause;
+        first = subst (λ n. IsGivenNone n (sight_in (told_by s)).given) (sym last) (subst (λ (os : List Opened). IsGivenNone (last_stream t) os) (sym right.given) started.none_given);
+        counted = counted;
       }
     where
-      opened_for : (x : serving.State) → x ≡ s.requests → (requests.MayOpen x k route → IsOpenedFor known (serving.tape_of (turns_of known.setup run)) k) → IsOpenedFor known t k
-      opened_for x same by = subst (λ (u : List Entry). IsOpenedFor known u k) (requests_tape known.setup run) (by (subst (λ (r : serving.State). requests.MayOpen r k route) (sym same) may))
-
       begun : (id : ℕ) → is_active id t ≡ true → (items known id t ≡ [] → ⊥) → (find s.desk.book.rows id).brief.begun ≡ true
       begun id is_live some =
           ap (λ (x : State). (find x.desk.book.rows id).brief.begun) (sym led.stands.is)
           ∙ ap (λ (kept : Conducted). kept.brief.begun) (live_told known t (desk_of known.setup (conducts run)).book (book_told known (conducts run) led.knows (all_moved known run led.stands.allowed) (ap (λ (x : State). x.desk.book.ends) led.stands.is ∙ led.stands.goes_on)) id is_live)
           ∙ some_begun (items known id t) some
+
+  -- The next connection is opened for the stream of the last frame.
+  pub opens_next : (k route : ℕ) → requests.MayOpen s.requests k route → BeginsNext (sight_in (told_by s)) k
+  opens_next k route may =
+      let opened : IsOpenedFor known t k route =
+      subst (λ (u : List Entry). IsOpenedFor known u k route) (requests_tape known.setup run)
+      (next_opened known (turns_of known.setup run) (turns_may known.setup run led.stands.allowed) (turns_so known run led.knows led.stands.allowed led.answered) k route
+      (subst (λ (x : State). requests.MayOpen x.requests k route) (sym led.stands.is) may)) in
+      begins_for k opened.started (let next = opened.next in omega (arith, next))
+
+  -- An idle one is given to it, the least of its route.
+  pub given_next : (k : ℕ) (octets : List ℕ) → requests.MayUse s.requests k octets → IsUsedFor known t k octets
+  given_next k octets may =
+      subst (λ (u : List Entry). IsUsedFor known u k octets) (requests_tape known.setup run)
+      (idle_used known (turns_of known.setup run) (turns_may known.setup run led.stands.allowed) (turns_so known run led.knows led.stands.allowed led.answered) k octets
+      (subst (λ (x : State). requests.MayUse x.requests k octets) (sym led.stands.is) may))
+
+  pub uses_next : (k : ℕ) (octets : List ℕ) → requests.MayUse s.requests k octets → BeginsNext (sight_in (told_by s)) k
+  uses_next k octets may =
+      let used = given_next k octets may in
+      begins_for k used.started (above_zero k (none_zero t (exchange_on k t) stands.numbered stands.goes (open_exchange k t used.again.idle.is_open)))
+
+  -- The client has ended each stream whose connection was given to another since.
+  pub past_ended : (o : Opened) → IsIn o (exchanges t) → (given o.k (exchanges t) ≡ o.stream → ⊥) → is_ended_by_client o.stream t ≡ true
+  past_ended =
+      subst (λ (u : List Entry). (o : Opened) → IsIn o (exchanges u) → (given o.k (exchanges u) ≡ o.stream → ⊥) → is_ended_by_client o.stream u ≡ true) (requests_tape known.setup run)
+      (earlier_ended known (turns_of known.setup run) (turns_may known.setup run led.stands.allowed) (turns_so known run led.knows led.stands.allowed led.answered))

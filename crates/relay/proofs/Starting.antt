@@ -1,12 +1,12 @@
 -- Before anything came: rooms in which nothing is kept yet stand for the first state, with the gateway's settings owed.
-use Rattle.std.proofs.Common.{◌≡◌, ℕ, false, List, [], ◌∷◌, Option, Some, None, refl, sym, ◌∙◌, ap}
+use Rattle.std.proofs.Common.{◌≡◌, ℕ, List, [], ◌∷◌, Option, Some, None, refl, sym, ◌∙◌, ap, subst}
 use Rattle.model.specs.Frames.{settings_frame}
 use Rattle.model.specs.Setup.{Setup}
 use Rattle.model.specs.Tables.{first_table}
 use Rattle.conduct.specs.Book.{first_desk}
 use Rattle.offering.specs.State as offering
 use Rattle.serving.specs.State as serving
-use Rattle.serving.specs.State.{find}
+use Rattle.serving.specs.Lines.{find}
 use Rattle.tables.specs.State.{inserts}
 use Rattle.header_blocks.specs.Encoding.{first_encoding}
 use Rattle.judgement.specs.Inbound.{book_of}
@@ -14,26 +14,26 @@ use Rattle.upstreams.specs.Kept.{State, nothing, with_due}
 use Rattle.upstreams.specs.Connections.{Connection, number_of}
 use Rattle.marks_kept.specs.Sides.{Side}
 use Rattle.marks_kept.specs.Sides.{find as find_side}
-use Rattle.marks_kept.specs.Standing.{StandFor}
+use Rattle.marks_kept.specs.Standing.{StandFor, AreApart, ids_of}
 use Rattle.policy.specs.State as policy
 use Rattle.policy.specs.Rule.{rooms_in}
 use Rattle.policy.specs.Steps.{told_by}
-use Rattle.relay.specs.View.{View, Pending, square, Leads}
+use Rattle.relay.specs.View.{View, Pending, square, newest_in, Leads}
 
 -- what is to be done first: the gateway's settings are owed
 abbrev pub first_pending : Pending
 first_pending = record square { owed = settings_frame ∷ [] }
 
-module _ (setup : Setup) (off : setup.keep ≡ false) (kept : View) (book : book_of (record { given = []; untaken = 0 }) kept.inbound ≡ (first_desk setup).book) (offers : kept.offers ≡ offering.start) (upstreams : kept.upstreams ≡ nothing) (table : kept.inbound.table ≡ first_table) (encoding : kept.encoding ≡ first_encoding (inserts setup.policy)) (marks : kept.marks ≡ []) (untaken : kept.untaken ≡ 0) where
+module _ (setup : Setup) (kept : View) (book : book_of (record { given = []; untaken = 0 }) kept.inbound ≡ (first_desk setup).book) (offers : kept.offers ≡ offering.start) (upstreams : kept.upstreams ≡ nothing) (table : kept.inbound.table ≡ first_table) (encoding : kept.encoding ≡ first_encoding (inserts setup.policy)) (marks : kept.marks ≡ []) (untaken : kept.untaken ≡ 0) where
   none_open : (k : ℕ) (c : Connection) → find number_of k kept.upstreams.live ≡ Some c → ⊥
   none_open k c found = let no : ◌≡◌ {A = Option Connection} None (Some c) = sym (ap (λ (u : State). find number_of k u.live) upstreams) ∙ found in cc
 
   -- No move led there.
   pub first_leads : Leads setup [] kept first_pending (policy.state_of setup [])
   first_leads = record {
-    stands = record { allowed = off; is = refl; goes_on = refl };
+    stands = record { allowed = tt; is = refl; goes_on = refl };
     so = λ known same knows. tt;
-    heard = λ known same knows k c found goes_on. absurd (none_open k c found);
+    heard = record { so = λ known same knows k c found goes_on. absurd (none_open k c found); none_idle = λ k c found is. absurd (none_open k c found) };
     keeps = record {
       book = sym book ∙ ap (λ n. book_of (record { given = []; untaken = n }) kept.inbound) (sym untaken);
       owed = refl;
@@ -54,9 +54,10 @@ module _ (setup : Setup) (off : setup.keep ≡ false) (kept : View) (book : book
     in_effect = tt;
   }
     where
-      none_marked : StandFor kept.marks (rooms_in (told_by (policy.state_of setup [])) (policy.state_of setup []))
+      none_marked : StandFor (newest_in (policy.state_of setup [])) kept.marks (rooms_in (told_by (policy.state_of setup [])) (policy.state_of setup []))
       none_marked = record {
         live = λ id side found. let no : ◌≡◌ {A = Option Side} None (Some side) = sym (ap (λ (sides : List Side). find_side id sides) marks) ∙ found in cc;
         rows = λ id side found. let no : ◌≡◌ {A = Option Side} None (Some side) = sym (ap (λ (sides : List Side). find_side id sides) marks) ∙ found in cc;
         rest = λ id live none. refl;
+        apart = subst (λ (sides : List Side). AreApart (ids_of sides)) (sym marks) tt;
       }

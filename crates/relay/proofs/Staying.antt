@@ -1,21 +1,22 @@
 -- What stays behind a move, where moves led: what is said of upstreams' answers, answers that stand for what was heard, rows, and what is held.
 use Rattle.std.proofs.Common.{◌≡◌, ℕ, Bool, true, false, ◌==◌, List, [], ◌∷◌, map, Option, Some, None, refl, sym, ◌∙◌, ap, subst, inl, inr, if◌then◌else◌}
 use Rattle.std.specs.Prelude.{option_map}
-use Rattle.std.proofs.lemmas.Bool.{eq-eqb, cases_eq}
+use Rattle.std.proofs.lemmas.Bool.{eq-eqb, eqb-true, cases_eq}
 use Rattle.std.proofs.lemmas.Bool.Decides.{eqb_tells}
+use Rattle.model.specs.Logs.{Event}
 use Rattle.model.specs.Logs.Event.{ClientTook, UpTook}
 use Rattle.model.specs.Logs.Act.{ToUp, Close}
 use Rattle.model.specs.Setup.{Setup}
 use Rattle.model.specs.Tapes.{Entry}
-use Rattle.model.specs.Tapes.Entry.{Did}
+use Rattle.model.specs.Tapes.Entry.{Happened, Did}
 use Rattle.model.specs.Openings.{Opened, exchanges, exchange_on, given, route_of}
 use Rattle.model.specs.Available.{heard_by}
 use Rattle.model.specs.Known.{Known}
 use Rattle.model.specs.Causes.{Cause}
-use Rattle.model.specs.Courses.{course, items, first_of_both}
+use Rattle.model.specs.Courses.{course, items, upstream_of, first_of_both}
 use Rattle.model.specs.Offers.{is_to_head}
 use Rattle.model.proofs.ItemLaws.{head_stays}
-use Rattle.model.proofs.ExchangeLaws.{none_kept}
+use Rattle.model.proofs.ExchangeLaws.{open_exchange}
 use Rattle.conduct.specs.Summary.{Summary}
 use Rattle.conduct.specs.Rule.{AreKnown, known_of}
 use Rattle.conduct.specs.Tidy.{AreKept}
@@ -23,15 +24,20 @@ use Rattle.conduct.proofs.Knowing.{known_so}
 use Rattle.conduct.proofs.Tidy.{desk_kept}
 use Rattle.serving.specs.Told.{Told, is_served}
 use Rattle.serving.specs.State as serving
-use Rattle.serving.specs.State.{Held, Live, held_of, k_of, live_of, find, without}
+use Rattle.serving.specs.Lines as lines
+use Rattle.serving.specs.Lines.{Line, k_of, line_of, find, without, with_answer}
+use Rattle.serving.specs.State.{Held, held_of}
 use Rattle.serving.specs.Held.{AreApart}
-use Rattle.model.proofs.AloneLaws.{newest_is}
-use Rattle.serving.proofs.Lists.{find_gone, find_other, find_map}
+use Rattle.serving.proofs.Lists.{find_gone, find_other, find_map, found_key}
+use Rattle.serving.proofs.Reasons.{heard_same}
+use Rattle.serving.proofs.Reusing.{sends_leave}
 use Rattle.serving.proofs.Standing as standing
 use Rattle.serving.proofs.Served.{held_served, held_apart}
-use Rattle.upstreams.specs.Connections.{Connection, number_of, lives}
+use Rattle.upstreams.specs.Connections.{Connection, number_of, lives, marked_at, given_at}
+use Rattle.answers.specs.Waiting.{Answer}
+use Rattle.answers.specs.HeldInside.{octets_of}
 use Rattle.policy.specs.Moves.{Deed, Move, entry_of, told_in}
-use Rattle.policy.specs.Moves.Deed.{Takes, Breaks, Notes, Sends, Goes, Acts}
+use Rattle.policy.specs.Moves.Deed.{Takes, Breaks, Notes, Idles, Sends, Goes, Acts}
 use Rattle.policy.specs.Moves.Move.{Does, Settles}
 use Rattle.policy.specs.State.{State, conducts, tape_of, turns_of}
 use Rattle.policy.specs.Answered.{IsAnswered}
@@ -79,11 +85,11 @@ so_settles setup run so = so
 -- ---- connections by their number
 
 -- what is found among connections is found among those of the rule
-pub found_live : (k : ℕ) (cs : List Connection) (c : Connection) → find number_of k cs ≡ Some c → live_of k (lives cs) ≡ Some c.live
+pub found_live : (k : ℕ) (cs : List Connection) (c : Connection) → find number_of k cs ≡ Some c → line_of k (lives cs) ≡ Some c.live
 found_live k [] c is = cc
 found_live k (x ∷ cs) c is = by (number_of x == k) is (found_live k cs c)
   where
-    by : (b : Bool) → (if b then Some x else find number_of k cs) ≡ Some c → (find number_of k cs ≡ Some c → live_of k (lives cs) ≡ Some c.live) → (if b then Some x.live else live_of k (lives cs)) ≡ Some c.live
+    by : (b : Bool) → (if b then Some x else find number_of k cs) ≡ Some c → (find number_of k cs ≡ Some c → line_of k (lives cs) ≡ Some c.live) → (if b then Some x.live else line_of k (lives cs)) ≡ Some c.live
     by true is rest = let same : x ≡ c = cc in ap (λ (y : Connection). Some y.live) same
     by false is rest = rest is
 
@@ -106,39 +112,89 @@ calm_before known stream e t calm = stays (course known stream t).cause _ calm
 
 -- The answers that are kept stand for what was heard where the effect of what came is over.
 pub heard_settles : (setup : Setup) (run : List Move) (live : List Connection) → AreHeard setup run live → AreHeard setup (Settles ∷ run) live
-heard_settles setup run live are = are
+heard_settles setup run live are = record { so = are.so; none_idle = are.none_idle }
 
 -- So they do of fewer connections, and of those whose octets are counted.
 pub heard_of_fewer : (setup : Setup) (run : List Move) (live : List Connection) (k : ℕ) → AreHeard setup run live → AreHeard setup run (without number_of k live)
-heard_of_fewer setup run live k are known same knows j c found = are known same knows j c (found_before k j live c found)
+heard_of_fewer setup run live k are = record {
+  so = λ known same knows j c found. are.so known same knows j c (found_before k j live c found);
+  none_idle = λ j c found. are.none_idle j c (found_before k j live c found);
+}
+
+-- a connection that is found where each changes so was another before
+pub record IsFrom (f : Connection → Connection) (live : List Connection) (j : ℕ) (now : Connection) : Type 0 where
+  pub before : Connection
+  pub there : find number_of j live ≡ Some before
+  pub is : f before ≡ now
+
+pub found_from : (f : Connection → Connection) → ((c : Connection) → number_of (f c) ≡ number_of c) → (live : List Connection) (j : ℕ) (now : Connection) → find number_of j (map f live) ≡ Some now → IsFrom f live j now
+found_from f numbers live j now found = by (find number_of j live) refl (sym (find_map number_of f numbers j live) ∙ found)
+  where
+    by : (o : Option Connection) → find number_of j live ≡ o → option_map f o ≡ Some now → IsFrom f live j now
+    by None none is = cc
+    by (Some x) there is = record { before = x; there = there; is = let same : f x ≡ now = cc in same }
 
 pub heard_of_changed : (setup : Setup) (run : List Move) (live : List Connection) (f : Connection → Connection) → ((c : Connection) → (f c).live ≡ c.live) → ((c : Connection) → (f c).answer ≡ c.answer) → AreHeard setup run live → AreHeard setup run (map f live)
-heard_of_changed setup run live f lives_stay answers_stay are known same knows j c found =
-    by (find number_of j live) refl (sym (find_map number_of f (λ x. ap k_of (lives_stay x)) j live) ∙ found)
+heard_of_changed setup run live f lives_stay answers_stay are = record {
+  so = λ known same knows j c found goes_on calm.
+      let x = from j c found in
+      subst (IsHeard known (tape_of run) j) (answer_of x)
+      (are.so known same knows j x.before x.there (ap (λ (l : Line). l.answer) (line_of_it x) ∙ goes_on) (ap (λ (l : Line). (course known l.stream (tape_of run)).cause) (line_of_it x) ∙ calm));
+  none_idle = λ j c found is.
+      let x = from j c found in
+      ap octets_of (sym (answer_of x)) ∙ are.none_idle j x.before x.there (ap (λ (l : Line). l.answer) (line_of_it x) ∙ is);
+}
   where
-    by : (o : Option Connection) → find number_of j live ≡ o → option_map f o ≡ Some c → c.live.whole ≡ false → (course known c.live.stream (tape_of run)).cause ≡ None → IsHeard known (tape_of run) j c.answer
-    by None none is goes_on calm = cc
-    by (Some x) there is goes_on calm =
-        let changed : f x ≡ c = cc in
-        let same_live : x.live ≡ c.live = sym (lives_stay x) ∙ ap (λ (y : Connection). y.live) changed in
-        subst (IsHeard known (tape_of run) j) (sym (answers_stay x) ∙ ap (λ (y : Connection). y.answer) changed)
-        (are known same knows j x there (ap (λ (l : Live). l.whole) same_live ∙ goes_on) (ap (λ (l : Live). (course known l.stream (tape_of run)).cause) same_live ∙ calm))
+    from : (j : ℕ) (c : Connection) → find number_of j (map f live) ≡ Some c → IsFrom f live j c
+    from = found_from f (λ x. ap k_of (lives_stay x)) live
 
--- An answer stands for all that was heard behind an entry with which nothing is heard of its upstream and no exchange begins, where its stream has
--- an item.
-heard_by_entry : (known : Known) (t : List Entry) (e : Entry) (k : ℕ) (c : Connection) → ((o : Opened) → heard_by o (e ∷ t) ≡ heard_by o t) → exchanges (e ∷ t) ≡ exchanges t → (items known (given k (exchanges t)) t ≡ [] → ⊥) → IsHeard known t k c.answer → IsHeard known (e ∷ t) k c.answer
-heard_by_entry known t e k c unheard same begun is = record {
+    line_of_it : {j : ℕ} {c : Connection} → (x : IsFrom f live j c) → x.before.live ≡ c.live
+    line_of_it x = sym (lives_stay x.before) ∙ ap (λ (y : Connection). y.live) x.is
+
+    answer_of : {j : ℕ} {c : Connection} → (x : IsFrom f live j c) → x.before.answer ≡ c.answer
+    answer_of x = sym (answers_stay x.before) ∙ ap (λ (y : Connection). y.answer) x.is
+
+-- So they do where of one it is told that its response is whole: nothing is said of that any more, but that nothing is kept of it where it is idle.
+pub heard_of_marked : (setup : Setup) (run : List Move) (live : List Connection) (k : ℕ) (progress : lines.Answer) → (progress ≡ lines.Answer.Pending → ⊥) → (progress ≡ lines.Answer.Idle → (c : Connection) → find number_of k live ≡ Some c → octets_of c.answer ≡ 0)
+    → AreHeard setup run live → AreHeard setup run (map (marked_at k progress) live)
+heard_of_marked setup run live k progress whole empty are = record {
+  so = λ known same knows j c found goes_on calm.
+      let x = from j c found in
+      subst (IsHeard known (tape_of run) j) (ap (λ (y : Connection). y.answer) x.is)
+      (are.so known same knows j x.before x.there (pending (x.before.live.k == k) x.before.live.answer (ap (λ (y : Connection). y.live.answer) x.is ∙ goes_on)) (ap (λ (y : Connection). (course known y.live.stream (tape_of run)).cause) x.is ∙ calm));
+  none_idle = λ j c found is.
+      let x = from j c found in
+      sym (ap (λ (y : Connection). octets_of y.answer) x.is) ∙ idle j x.before x.there (x.before.live.k == k) refl (ap (λ (y : Connection). y.live.answer) x.is ∙ is);
+}
+  where
+    from : (j : ℕ) (c : Connection) → find number_of j (map (marked_at k progress) live) ≡ Some c → IsFrom (marked_at k progress) live j c
+    from = found_from (marked_at k progress) (λ x. refl) live
+
+    pending : (b : Bool) (a : lines.Answer) → (if b then progress else a) ≡ lines.Answer.Pending → a ≡ lines.Answer.Pending
+    pending true a on = absurd (whole on)
+    pending false a on = on
+
+    idle : (j : ℕ) (x : Connection) → find number_of j live ≡ Some x → (b : Bool) → (x.live.k == k) ≡ b → (if b then progress else x.live.answer) ≡ lines.Answer.Idle → octets_of x.answer ≡ 0
+    idle j x there true own is = empty is x (ap (λ n. find number_of n live) (sym (eqb-true x.live.k k own) ∙ found_key number_of j live x there) ∙ there)
+    idle j x there false own is = are.none_idle j x there is
+
+-- An answer stands for all that was heard behind an entry with which nothing is heard on its connection and no exchange begins there, where its
+-- stream has an item.
+pub heard_by_entry : (known : Known) (t : List Entry) (e : Entry) (k : ℕ) (answer : Answer) → heard_by (exchange_on k t) (e ∷ t) ≡ heard_by (exchange_on k t) t → exchange_on k (e ∷ t) ≡ exchange_on k t → (items known (given k (exchanges t)) t ≡ [] → ⊥) → IsHeard known t k answer → IsHeard known (e ∷ t) k answer
+heard_by_entry known t e k answer unheard same begun is = record {
   parts = is.parts;
-  stands =
-      subst (λ x. Rattle.h1_reader.specs.Standing.Stands x is.parts c.answer.reader)
-      (sym (unheard (exchange_on k (e ∷ t)) ∙ ap (λ (os : List Opened). heard_by (record { k = k; route = route_of k os; stream = given k os }) t) same)) is.stands;
+  stands = subst (λ x. Rattle.h1_reader.specs.Standing.Stands x is.parts answer.reader) (sym all_heard) is.stands;
+  knows = subst (λ x. Rattle.h1_reader.specs.Keeps.Knows x answer.reader) (sym all_heard) is.knows;
   short = is.short;
   few_named = is.few_named;
   goes_on = is.goes_on;
   waits = is.waits;
-  asked = is.asked ∙ head_stays known (given k (exchanges t)) t e begun ∙ ap (λ (os : List Opened). is_to_head (items known (given k os) (e ∷ t))) (sym same);
+  asked = is.asked ∙ head_stays known (given k (exchanges t)) t e begun ∙ ap (λ (o : Opened). is_to_head (items known o.stream (e ∷ t))) (sym same);
   set_up = is.set_up;
 }
+  where
+    all_heard : heard_by (exchange_on k (e ∷ t)) (e ∷ t) ≡ heard_by (exchange_on k t) t
+    all_heard = ap (λ (o : Opened). heard_by o (e ∷ t)) same ∙ unheard
 
 module _ (setup : Setup) (run : List Move) (s : State) (stand : Stands setup run s) (so : AreSo setup run) (live : List Connection) (open_ones : s.requests.live ≡ lives live) where
   -- the stream of an open connection has an item
@@ -146,15 +202,65 @@ module _ (setup : Setup) (run : List Move) (s : State) (stand : Stands setup run
   open_begun known same knows k c found none =
       let led : IsLed known run s = record { knows = knows; answered = so known same knows; stands = subst (λ (x : Setup). Stands x run s) (sym same) stand } in
       let is = stands known run s led in
-      let there = is.there k c.live (ap (live_of k) open_ones ∙ found_live k live c found) in
-      let it = is.given there.0 there.1 in
-      let stream : given k (exchanges (tape_of run)) ≡ there.0.stream = ap (λ (o : Opened). o.stream) (newest_is (tape_of run) (none_kept known (tape_of run) is.off is.in_time) is.numbered k there.0 there.1 there.2) in
-      standing.some_items (items known there.0.stream (tape_of run)) it.head it.has_head (ap (λ n. items known n (tape_of run)) (sym stream) ∙ none)
+      let it = is.given (exchange_on k (tape_of run)) (open_exchange k (tape_of run) (is.keeps.are_so k c.live (ap (line_of k) open_ones ∙ found_live k live c found)).opened) in
+      standing.some_items (items known (given k (exchanges (tape_of run))) (tape_of run)) it.head it.has_head none
+
+  -- An answer stands for what was heard behind a deed with which nothing is heard on its connection, and no exchange begins there.
+  pub heard_beside : (d : Deed) (j : ℕ) → heard_by (exchange_on j (tape_of run)) (entry_of d ∷ tape_of run) ≡ heard_by (exchange_on j (tape_of run)) (tape_of run) → exchange_on j (entry_of d ∷ tape_of run) ≡ exchange_on j (tape_of run) → AreHeard setup run live
+      → (known : Known) → known.setup ≡ setup → AreKnown known (conducts run) → (c : Connection) → find number_of j live ≡ Some c → c.live.answer ≡ lines.Answer.Pending → (course known c.live.stream (entry_of d ∷ tape_of run)).cause ≡ None → IsHeard known (entry_of d ∷ tape_of run) j c.answer
+  heard_beside d j unheard none_begun are known same knows c found goes_on calm =
+      heard_by_entry known (tape_of run) (entry_of d) j c.answer unheard none_begun (open_begun known same knows j c found) (are.so known same knows j c found goes_on (calm_before known c.live.stream (entry_of d) (tape_of run) calm))
 
   -- Answers stand for what was heard behind a deed with which nothing is heard and no exchange begins.
   pub heard_behind : (d : Deed) → ((o : Opened) → heard_by o (entry_of d ∷ tape_of run) ≡ heard_by o (tape_of run)) → exchanges (entry_of d ∷ tape_of run) ≡ exchanges (tape_of run) → AreHeard setup run live → AreHeard setup (Does d ∷ run) live
-  heard_behind d unheard none_begun are known same knows k c found goes_on calm =
-      heard_by_entry known (tape_of run) (entry_of d) k c unheard none_begun (open_begun known same knows.0 k c found) (are known same knows.0 k c found goes_on (calm_before known c.live.stream (entry_of d) (tape_of run) calm))
+  heard_behind d unheard none_begun are = record {
+    so = λ known same knows k c found goes_on calm.
+        heard_beside d k (unheard (exchange_on k (tape_of run))) (ap {A = List Opened} {B = Opened} (λ os. record { k = k; route = route_of k os; stream = given k os }) none_begun) are known same knows.0 c found goes_on calm;
+    none_idle = are.none_idle;
+  }
+
+  -- So they do behind an event of a connection whose response is whole already.
+  pub heard_idles : (event : Event) → ((c : Connection) → find number_of (upstream_of event) live ≡ Some c → c.live.answer ≡ lines.Answer.Pending → ⊥) → AreHeard setup run live → AreHeard setup (Does (Idles event) ∷ run) live
+  heard_idles event whole are = record {
+    so = λ known same knows j c found goes_on calm. elim (cases_eq j (upstream_of event)) [
+      | inl own ↦ absurd (whole c (ap (λ n. find number_of n live) (sym own) ∙ found) goes_on)
+      | inr other ↦ heard_beside (Idles event) j (heard_same (tape_of run) (Happened event) (exchange_on j (tape_of run)) other) refl are known same knows.0 c found goes_on calm
+    ];
+    none_idle = are.none_idle;
+  }
+
+  -- So they do behind octets with which an exchange begins, where the answer to that stands for what was heard.
+  pub heard_given : (k stream : ℕ) (octets : List ℕ) (answer : Answer) → ((known : Known) → known.setup ≡ setup → AreKnown known (conducts run) → IsHeard known (Did (ToUp k octets) ∷ tape_of run) k answer)
+      → AreHeard setup run live → AreHeard setup (Does (Acts (ToUp k octets)) ∷ run) (map (given_at k stream answer) live)
+  heard_given k stream octets answer new are = record {
+    so = λ known same knows j c found goes_on calm.
+        let x = from j c found in elim (eqb_tells j k) [
+          | inl own ↦ subst (IsHeard known t j) (sym (ap (λ b. if b then answer else x.before.answer) (is_it x own.0)) ∙ ap (λ (y : Connection). y.answer) x.is) (subst (λ n. IsHeard known t n answer) (sym own.1) (new known same knows.0))
+          | inr off ↦ (
+              let left = sends_leave known (tape_of run) j k octets off.1 in
+              subst (IsHeard known t j) (sym (ap (λ b. if b then answer else x.before.answer) (is_it x off.0)) ∙ ap (λ (y : Connection). y.answer) x.is)
+              (heard_beside (Acts (ToUp k octets)) j refl left.exchange are known same knows.0 x.before x.there
+              (sym (ap (λ b. if b then lines.Answer.Pending else x.before.live.answer) (is_it x off.0)) ∙ ap (λ (y : Connection). y.live.answer) x.is ∙ goes_on)
+              (ap (λ n. (course known n t).cause) (sym (ap (λ b. if b then stream else x.before.live.stream) (is_it x off.0)) ∙ ap (λ (y : Connection). y.live.stream) x.is) ∙ calm))
+              )
+        ];
+    none_idle = λ j c found is.
+        let x = from j c found in
+        sym (ap (λ (y : Connection). octets_of y.answer) x.is) ∙ idle j x.before x.there (x.before.live.k == k) (ap (λ (y : Connection). y.live.answer) x.is ∙ is);
+  }
+    where
+      t : List Entry
+      t = Did (ToUp k octets) ∷ tape_of run
+
+      from : (j : ℕ) (c : Connection) → find number_of j (map (given_at k stream answer) live) ≡ Some c → IsFrom (given_at k stream answer) live j c
+      from = found_from (given_at k stream answer) (λ x. refl) live
+
+      is_it : {j : ℕ} {c : Connection} {b : Bool} → (x : IsFrom (given_at k stream answer) live j c) → (j == k) ≡ b → (x.before.live.k == k) ≡ b
+      is_it {j} {c} {b} x is = ap (λ n. n == k) (found_key number_of j live x.before x.there) ∙ is
+
+      idle : (j : ℕ) (x : Connection) → find number_of j live ≡ Some x → (b : Bool) → (if b then lines.Answer.Pending else x.live.answer) ≡ lines.Answer.Idle → octets_of (if b then answer else x.answer) ≡ 0
+      idle j x there true is = cc
+      idle j x there false is = are.none_idle j x there is
 
   -- such a deed
   abbrev pub IsUnheard : Deed → Type 0

@@ -3,10 +3,11 @@ use Rattle.std.proofs.Common.{◌≡◌, ℕ, true, false, List, Some, None, sym
 use Rattle.model.specs.Setup.{Setup}
 use Rattle.model.specs.Setup.Passing.{Whole as WholePassing}
 use Rattle.conduct.specs.Rows.{Row, find}
+use Rattle.h1_writer.specs.Sending.{Stage}
 use Rattle.serving.specs.State as serving
 use Rattle.serving.specs.State.{Way, Held, held_of, Due, is_whole}
 use Rattle.serving.specs.State.Way.{Waiting, Going, Dropped}
-use Rattle.serving.specs.State.Due.{Nothing, ToOpen, ToSend}
+use Rattle.serving.specs.State.Due.{Nothing, ToOpen, ToUse, ToSend}
 use Rattle.policy.specs.Moves.{Move}
 use Rattle.policy.specs.State.{State}
 use Rattle.policy.specs.Steps.{Stands}
@@ -25,9 +26,13 @@ Awaits (Waiting route text stage body) = is_whole stage ≡ false
 Awaits way = ⊥
 
 -- What is due is due for a stream whose items don't go on.
+abbrev pub IsOver : List Row → ℕ → Stage → Type 0
+IsOver rows stream stage = (is_whole stage ≡ true) × ((find rows stream).brief.begun ≡ true → (find rows stream).brief.over ≡ false → ⊥)
+
 abbrev pub DueOver : List Row → Due → Type 0
 DueOver rows Nothing = Unit {0}
-DueOver rows (ToOpen stream route text stage) = (is_whole stage ≡ true) × ((find rows stream).brief.begun ≡ true → (find rows stream).brief.over ≡ false → ⊥)
+DueOver rows (ToOpen stream route text stage) = IsOver rows stream stage
+DueOver rows (ToUse k stream text stage) = IsOver rows stream stage
 DueOver rows (ToSend k text) = Unit {0}
 
 -- Each stream whose items go on is held, and isn't replied to; all that is held waits.
@@ -46,11 +51,13 @@ awaits_so Dropped waits part = waits
 none_part : (id : ℕ) (due : Due) → IsWholeDue due → IsDuePart due id → ⊥
 none_part id Nothing whole part = part
 none_part id (ToOpen stream route text stage) whole part = let no : true ≡ false = sym whole ∙ part.1 in cc
+none_part id (ToUse k stream text stage) whole part = let no : true ≡ false = sym whole ∙ part.1 in cc
 none_part id (ToSend k text) whole part = part
 
 due_over : (rows : List Row) (due : Due) → IsWholeDue due → DueEnded rows due → DueOver rows due
 due_over rows Nothing whole ended = tt
 due_over rows (ToOpen stream route text stage) whole ended = (whole, ended whole)
+due_over rows (ToUse k stream text stage) whole ended = (whole, ended whole)
 due_over rows (ToSend k text) whole ended = tt
 
 module _ (setup : Setup) (run : List Move) (s : State) (stands : Stands setup run s) (so : AreSo setup run) (whole : setup.passing ≡ WholePassing) (open_yet : s.desk.book.closed ≡ false) where

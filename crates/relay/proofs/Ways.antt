@@ -7,9 +7,10 @@ use Rattle.model.specs.Courses.{upstream_of}
 use Rattle.h1_writer.specs.Sending.{Stage}
 use Rattle.serving.specs.Written.{octets_of}
 use Rattle.serving.specs.Told.{Told}
-use Rattle.serving.specs.State.{Way, Held, Live, Due, State, Move, Turn, id_of, held_of, k_of, without, kept, with_way, held_at, held_with, goes_now, is_streaming, is_whole, drop_from, dropped, held_opened, answered, live_after, to_send, to_open, due_opened, count_after, after, state_of}
+use Rattle.serving.specs.Lines.{Answer, Line, k_of, without, with_answer, answer_by, idle_beside, lines_given, least_idle}
+use Rattle.serving.specs.State.{Way, Held, Due, State, Move, Turn, id_of, held_of, kept, with_way, held_at, held_with, goes_now, is_streaming, is_whole, drop_from, dropped, held_opened, held_used, lines_used, live_after, to_send, to_open, due_opened, count_after, after, state_of}
 use Rattle.serving.specs.State.Way.{Waiting, Going, Dropped}
-use Rattle.serving.specs.State.Due.{ToOpen}
+use Rattle.serving.specs.State.Due.{Nothing, ToOpen, ToUse, ToSend}
 use Rattle.serving.specs.State.Move.{Takes, Begins, Gathers, Passes, Drops, Breaks, Notes, Hears, Fails, Sends, Acts}
 use Rattle.serving.specs.Rule.{MayOpen, MayMove, told_of, AreAllowed}
 use Rattle.upstreams.specs.Connections.{Connection, lives, AreBelow}
@@ -30,9 +31,10 @@ abbrev pub AreWaiting : List Held → Type 0
 AreWaiting [] = Unit {0}
 AreWaiting (h ∷ hs) = IsWaiting h.way × AreWaiting hs
 
--- a connection is due for a whole text
+-- a connection, a new one or an idle one, is due for a whole text
 abbrev pub IsWholeDue : Due → Type 0
 IsWholeDue (ToOpen stream route text stage) = is_whole stage ≡ true
+IsWholeDue (ToUse k stream text stage) = is_whole stage ≡ true
 IsWholeDue due = Unit {0}
 
 -- some go
@@ -93,10 +95,10 @@ found_waits id (x ∷ hs) h are is = by (x.id == id) is (λ rest. found_waits id
     by false is more = more is
 
 -- a whole text is due, or none
-whole_due : (goes whole : Bool) (stream route : ℕ) (text : List ℕ) (stage : Stage) → goes ≡ whole → is_whole stage ≡ whole → IsWholeDue (to_open goes stream route text stage)
-whole_due true true stream route text stage same is = is
-whole_due false whole stream route text stage same is = tt
-whole_due true false stream route text stage same is = cc
+whole_due : (goes : Bool) (idle : Option ℕ) (stream route : ℕ) (text : List ℕ) (stage : Stage) → goes ≡ is_whole stage → IsWholeDue (to_open goes idle stream route text stage)
+whole_due true None stream route text stage same = sym same
+whole_due true (Some k) stream route text stage same = sym same
+whole_due false idle stream route text stage same = tt
 
 sent_due : (k : ℕ) (written : List ℕ) → IsWholeDue (to_send k written)
 sent_due k [] = tt
@@ -105,15 +107,15 @@ sent_due k (octet ∷ octets) = tt
 -- ---- numbers fall
 
 -- numbers of open connections, the newest first, fall from below this one
-abbrev pub AreFalling : ℕ → List Live → Type 0
+abbrev pub AreFalling : ℕ → List Line → Type 0
 AreFalling top [] = Unit {0}
 AreFalling top (l ∷ ls) = (l.k < top) × AreFalling l.k ls
 
-falling_from : (low top : ℕ) (ls : List Live) → low ≤ top → AreFalling low ls → AreFalling top ls
+falling_from : (low top : ℕ) (ls : List Line) → low ≤ top → AreFalling low ls → AreFalling top ls
 falling_from low top [] le fall = tt
 falling_from low top (l ∷ ls) le fall = (let first = fall.0 in omega (arith, le, first), fall.1)
 
-falling_without : (k top : ℕ) (ls : List Live) → AreFalling top ls → AreFalling top (without k_of k ls)
+falling_without : (k top : ℕ) (ls : List Line) → AreFalling top ls → AreFalling top (without k_of k ls)
 falling_without k top [] fall = tt
 falling_without k top (l ∷ ls) fall = by (l.k == k) (falling_without k l.k ls fall.1)
   where
@@ -121,9 +123,20 @@ falling_without k top (l ∷ ls) fall = by (l.k == k) (falling_without k l.k ls 
     by true rest = falling_from l.k top (without k_of k ls) (let first = fall.0 in omega (arith, first)) rest
     by false rest = (fall.0, rest)
 
-falling_answered : (whole : Bool) (k top : ℕ) (ls : List Live) → AreFalling top ls → AreFalling top (map (answered whole k) ls)
-falling_answered whole k top [] fall = tt
-falling_answered whole k top (l ∷ ls) fall = (fall.0, falling_answered whole k l.k ls fall.1)
+falling_answered : (k : ℕ) (answer : Answer) (top : ℕ) (ls : List Line) → AreFalling top ls → AreFalling top (map (with_answer k answer) ls)
+falling_answered k answer top [] fall = tt
+falling_answered k answer top (l ∷ ls) fall = (fall.0, falling_answered k answer l.k ls fall.1)
+
+falling_given : (k stream top : ℕ) (ls : List Line) → AreFalling top ls → AreFalling top (lines_given k stream ls)
+falling_given k stream top [] fall = tt
+falling_given k stream top (l ∷ ls) fall = (fall.0, falling_given k stream l.k ls fall.1)
+
+-- whatever is due, where octets go out
+falling_used : (due : Due) (top : ℕ) (ls : List Line) → AreFalling top ls → AreFalling top (lines_used due ls)
+falling_used Nothing top ls fall = fall
+falling_used (ToOpen stream route text stage) top ls fall = fall
+falling_used (ToUse k stream text stage) top ls fall = falling_given k stream top ls fall
+falling_used (ToSend k text) top ls fall = fall
 
 -- they fall behind each move, however requests are passed on
 fall_behind : (setup : Setup) (before behind : Told) (s : State) → AreFalling (suc s.count) s.live → (m : Move) → MayMove setup before behind s m → AreFalling (suc (count_after s.count m)) (live_after s.live s.due m)
@@ -134,11 +147,11 @@ fall_behind setup before behind s fall (Passes noted item k old written stage) m
 fall_behind setup before behind s fall (Drops noted item) may = fall
 fall_behind setup before behind s fall (Breaks breach) may = fall
 fall_behind setup before behind s fall (Notes event) may = fall
-fall_behind setup before behind s fall (Hears event whole) may = falling_answered whole (upstream_of event) (suc s.count) s.live fall
+fall_behind setup before behind s fall (Hears event heard) may = falling_answered (upstream_of event) (answer_by (idle_beside (upstream_of event) s.live) heard) (suc s.count) s.live fall
 fall_behind setup before behind s fall (Fails k) may = falling_without k (suc s.count) s.live fall
 fall_behind setup before behind s fall (Sends noted) may = fall
 fall_behind setup before behind s fall (Acts (Open k route)) may = (let next = may.next in omega (arith, next), subst (λ n. AreFalling n s.live) (sym may.next) fall)
-fall_behind setup before behind s fall (Acts (ToUp k octets)) may = fall
+fall_behind setup before behind s fall (Acts (ToUp k octets)) may = falling_used s.due (suc s.count) s.live fall
 fall_behind setup before behind s fall (Acts (Close k)) may = falling_without k (suc s.count) s.live fall
 fall_behind setup before behind s fall (Acts CloseClient) may = fall
 
@@ -167,25 +180,32 @@ module _ (setup : Setup) (whole : setup.passing ≡ WholePassing) where
       due = subst (λ (d : Due). IsWholeDue (due_opened d k)) (sym may.due) tt;
     }
 
+    -- nothing is held any more of a stream that an idle connection is given to
+    used : (due : Due) → IsWholeDue due → AreWaiting (held_used due s.held)
+    used Nothing is = h.waiting
+    used (ToOpen stream route text stage) is = h.waiting
+    used (ToUse k stream text stage) is = subst (λ b. AreWaiting (held_with stream (if b then None else Some (Going k stage)) s.held)) (sym is) (without_wait stream s.held h.waiting)
+    used (ToSend k text) is = h.waiting
+
     hold_behind : (m : Move) → MayMove setup before behind s m → Holds setup (after setup behind s m)
     hold_behind (Takes noted) may = record { waiting = kept_wait behind s.held h.waiting; due = h.due }
     hold_behind (Begins noted head ended route text stage) may = record {
       waiting = either_waits (goes_now setup stage) noted.frame.id (Waiting route text stage []) s.held tt h.waiting;
-      due = whole_due (goes_now setup stage) (is_whole stage) noted.frame.id route text stage (goes_whole stage) refl;
+      due = whole_due (goes_now setup stage) (least_idle route s.live) noted.frame.id route text stage (goes_whole stage);
     }
     hold_behind (Gathers noted item route text old body written stage) may = record {
       waiting = either_waits (is_whole stage) noted.frame.id (Waiting route text stage (body ++ octets_of item)) s.held tt h.waiting;
-      due = whole_due (is_whole stage) (is_whole stage) noted.frame.id route (text ++ written) stage refl refl;
+      due = whole_due (is_whole stage) (least_idle route s.live) noted.frame.id route (text ++ written) stage refl;
     }
     hold_behind (Passes noted item k old written stage) may = absurd (found_waits noted.frame.id s.held (record { id = noted.frame.id; way = Going k old }) h.waiting may.1.found)
     hold_behind (Drops noted item) may = record { waiting = h.waiting; due = h.due }
     hold_behind (Breaks breach) may = record { waiting = h.waiting; due = h.due }
     hold_behind (Notes event) may = record { waiting = h.waiting; due = h.due }
-    hold_behind (Hears event b) may = record { waiting = kept_wait behind s.held h.waiting; due = h.due }
+    hold_behind (Hears event heard) may = record { waiting = kept_wait behind s.held h.waiting; due = h.due }
     hold_behind (Fails k) may = record { waiting = subst (λ (hs : List Held). AreWaiting (kept behind hs)) (sym (drop_none k s.held h.waiting)) (kept_wait behind s.held h.waiting); due = h.due }
     hold_behind (Sends noted) may = record { waiting = kept_wait behind s.held h.waiting; due = h.due }
     hold_behind (Acts (Open k route)) may = opened k route may
-    hold_behind (Acts (ToUp k octets)) may = record { waiting = h.waiting; due = tt }
+    hold_behind (Acts (ToUp k octets)) may = record { waiting = used s.due h.due; due = tt }
     hold_behind (Acts (Close k)) may = record { waiting = subst AreWaiting (sym (drop_none k s.held h.waiting)) h.waiting; due = h.due }
     hold_behind (Acts CloseClient) may = record { waiting = tt; due = h.due }
 

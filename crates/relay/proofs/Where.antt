@@ -52,7 +52,7 @@ module _ (setup : Setup) (run : List Move) (s : State) (stand : Stands setup run
   placed_here =
       subst (λ (x : State). Placed own (tape_of run) x.offers) stand.is
       (subst (λ (t : List Entry). Placed own t (state_of setup run).offers) (offers_tape setup run)
-      (placed own (offers_of setup run) (offers_may setup run stand.allowed) (offers_right own run own_led.knows stand.allowed) (offers_told own run own_led.answered)).1)
+      (placed own (offers_of setup run) (offers_may setup run stand.allowed) (offers_right own run own_led.knows stand.allowed) (offers_told own run own_led.knows own_led.answered)).1)
 
   -- and what is kept of the client's octets, and of those that were put out
   rooms_same : state_behind setup.passing (windows_of setup run) ≡ rooms_in (told_by s) s

@@ -3,6 +3,7 @@ use Rattle.std.specs.Prelude.{◌≡◌, ℕ, ◌<◌, Bool, true, false, List, 
 use Rattle.model.specs.Frames.{Frame}
 use Rattle.model.specs.Setup.{Setup, Passing}
 use Rattle.model.specs.Setup.Passing.{Whole, Streaming}
+use Rattle.model.specs.Openings.{given}
 use Rattle.model.specs.Courses.{course}
 use Rattle.model.specs.Known.{Known}
 use Rattle.conduct.specs.Rows as rows
@@ -11,11 +12,14 @@ use Rattle.offering.specs.State as offering
 use Rattle.receiving.specs.Marks.{total}
 use Rattle.receiving.specs.State as receiving
 use Rattle.receiving.specs.State.{is_live}
+use Rattle.serving.specs.Lines as lines
 use Rattle.serving.specs.State as serving
-use Rattle.serving.specs.State.{Due, find}
+use Rattle.serving.specs.Lines.{find}
+use Rattle.serving.specs.State.{Due}
 use Rattle.header_blocks.specs.Encoding.{Encoding}
 use Rattle.streams_kept.specs.Asked.{is_active}
 use Rattle.judgement.specs.Inbound.{Inbound, book_of}
+use Rattle.answers.specs.HeldInside.{octets_of}
 use Rattle.upstreams.specs.Kept as upstreams
 use Rattle.upstreams.specs.Connections.{Connection, number_of}
 use Rattle.marks_kept.specs.Sides.{Side}
@@ -76,10 +80,14 @@ pub record Keeps (kept : View) (pending : Pending) (s : State) : Type 0 where
 
 -- ---- octets that wait
 
--- What is kept of DATA that waits is what the rule has: nothing where requests are passed on whole, and else something of each active stream for
--- which a connection was opened, and of no other.
-pub record AreMarked (passing : Passing) (sides : List Side) (rooms : receiving.State) : Type 0 where
-  pub stand : StandFor sides rooms
+-- the stream that a connection was given to last, or 0
+abbrev pub newest_in : State → ℕ → ℕ
+newest_in s k = given k s.desk.book.given
+
+-- What is kept of DATA that waits is what the rule has, where connections were given to these streams last: nothing where requests are passed on
+-- whole, and else something of each active stream that was given a connection, and of no other.
+pub record AreMarked (passing : Passing) (newest : ℕ → ℕ) (sides : List Side) (rooms : receiving.State) : Type 0 where
+  pub stand : StandFor newest sides rooms
   pub none : passing ≡ Whole → sides ≡ []
   pub some : (id : ℕ) (side : Side) → marks.find id sides ≡ Some side → 0 < side.k
   pub all : passing ≡ Streaming → (id : ℕ) → is_live rooms id ≡ true → marks.find id sides ≡ None → (rooms.row id).k ≡ 0
@@ -94,11 +102,12 @@ waiting_for id kept = total (marks.queue_of id kept.marks)
 abbrev pub AreSo : Setup → List Move → Type 0
 AreSo setup run = (known : Known) → known.setup ≡ setup → AreKnown known (conducts run) → AreAnswered known run
 
--- The answers that are kept stand for all that was heard, while they are no whole responses and the gateway doesn't reply to their streams itself.
-abbrev pub AreHeard : Setup → List Move → List Connection → Type 0
-AreHeard setup run live =
-    (known : Known) → known.setup ≡ setup → AreKnown known (conducts run) → (k : ℕ) (c : Connection) → find number_of k live ≡ Some c → c.live.whole ≡ false → (course known c.live.stream (tape_of run)).cause ≡ None
-    → IsHeard known (tape_of run) k c.answer
+-- The answers that are kept stand for all that was heard of the newest exchanges, while they are no whole responses and the gateway doesn't reply to
+-- their streams itself. Of an idle connection's answer, which was handed on, nothing is kept.
+pub record AreHeard (setup : Setup) (run : List Move) (live : List Connection) : Type 0 where
+  pub so : (known : Known) → known.setup ≡ setup → AreKnown known (conducts run) → (k : ℕ) (c : Connection) → find number_of k live ≡ Some c → c.live.answer ≡ lines.Answer.Pending → (course known c.live.stream (tape_of run)).cause ≡ None
+      → IsHeard known (tape_of run) k c.answer
+  pub none_idle : (k : ℕ) (c : Connection) → find number_of k live ≡ Some c → c.live.answer ≡ lines.Answer.Idle → octets_of c.answer ≡ 0
 
 -- What is due goes out before the effect of the last frame is over.
 abbrev pub IsInEffect : Due → Bool → Type 0
@@ -111,5 +120,5 @@ pub record Leads (setup : Setup) (run : List Move) (kept : View) (pending : Pend
   pub so : AreSo setup run
   pub heard : AreHeard setup run kept.upstreams.live
   pub keeps : Keeps kept pending s
-  pub marked : AreMarked setup.passing kept.marks (rooms_in (told_by s) s)
+  pub marked : AreMarked setup.passing (newest_in s) kept.marks (rooms_in (told_by s) s)
   pub in_effect : IsInEffect pending.due s.windows.settled

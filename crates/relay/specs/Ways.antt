@@ -1,6 +1,6 @@
 -- What is held of a stream whose items go on, whether requests are passed on whole or as they come, as it stands to what the book tells of
 -- the stream.
-use Rattle.std.specs.Prelude.{◌≡◌, ℕ, ◌+◌, true, false, List, [], ◌++◌, length, Some}
+use Rattle.std.specs.Prelude.{◌≡◌, ℕ, ◌+◌, Bool, true, false, List, [], ◌++◌, length, Some}
 use Rattle.std.specs.List.{concat}
 use Rattle.model.specs.Http2.{HasLength}
 use Rattle.model.specs.Malformed.{has_length, is_within}
@@ -9,9 +9,10 @@ use Rattle.h1_writer.specs.Sending.{Stage, Sending, MayPush}
 use Rattle.h1_writer.specs.Sending.Stage.{Whole, Counting, Holding, Chunking}
 use Rattle.conduct.specs.Summary.{Brief}
 use Rattle.requests.specs.Waits.{MayEnd}
-use Rattle.serving.specs.State.{Way, Held, Live, Due, held_of, live_of, is_whole}
+use Rattle.serving.specs.Lines.{Line, line_of}
+use Rattle.serving.specs.State.{Way, Held, Due, held_of, is_whole}
 use Rattle.serving.specs.State.Way.{Waiting, Going, Dropped}
-use Rattle.serving.specs.State.Due.{Nothing, ToOpen, ToSend}
+use Rattle.serving.specs.State.Due.{Nothing, ToOpen, ToUse, ToSend}
 
 -- These octets of the body may be pushed, and the text ended behind them.
 abbrev pub MayEndBehind : Stage → List ℕ → Type 0
@@ -32,7 +33,8 @@ pub record MayGoOn (brief : Brief) (stage : Stage) : Type 0 where
   pub parts : HeadParts
   pub text : List ℕ
   pub pieces : List (List ℕ)
-  pub sending : Sending false parts false text pieces [] stage
+  pub keep : Bool
+  pub sending : Sending keep parts false text pieces [] stage
   pub counted : length (concat pieces) ≡ brief.octets
   pub declared : parts.length ≡ brief.declared
   pub may_push : (octets : List ℕ) → is_within brief.declared (brief.octets + length octets) ≡ true → MayPush stage (length octets)
@@ -51,15 +53,16 @@ pub record IsHeldFor (brief : Brief) (id : ℕ) (hs : List Held) : Type 0 where
   pub found : held_of id hs ≡ Some (record { id = id; way = way })
   pub goes : GoesBy brief way
 
--- A connection is due for the stream, whose request isn't whole.
+-- A connection is due for the stream, a new one or an idle one, and its request isn't whole.
 abbrev pub IsDuePart : Due → ℕ → Type 0
 IsDuePart Nothing id = ⊥
 IsDuePart (ToOpen stream route text stage) id = (stream ≡ id) × (is_whole stage ≡ false)
+IsDuePart (ToUse k stream text stage) id = (stream ≡ id) × (is_whole stage ≡ false)
 IsDuePart (ToSend k text) id = ⊥
 
--- The connection is open, and is the stream's.
-pub record IsOpenFor (id k : ℕ) (ls : List Live) : Type 0 where
-  pub live : Live
-  pub found : live_of k ls ≡ Some live
-  pub number : live.k ≡ k
-  pub stream : live.stream ≡ id
+-- The connection is open, and was given to the stream last.
+pub record IsOpenFor (id k : ℕ) (ls : List Line) : Type 0 where
+  pub line : Line
+  pub found : line_of k ls ≡ Some line
+  pub number : line.k ≡ k
+  pub stream : line.stream ≡ id

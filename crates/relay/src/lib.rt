@@ -30,9 +30,9 @@ ghost use Rattle.conduct.specs.Quiet.{noted_of};
 ghost use Rattle.conduct.specs.Book.{Book, summary_in, book_after};
 ghost use Rattle.conduct.specs.Tidy.{AreKept};
 ghost use Rattle.offering.specs.Outbox.{Part};
-ghost use Rattle.offering.specs.Rule.{OpensNext};
+ghost use Rattle.offering.specs.Rule.{BeginsNext};
 ghost use Rattle.offering.specs.Sight.{sight_in};
-ghost use Rattle.serving.specs.Rule.{MayOpen};
+ghost use Rattle.serving.specs.Rule.{MayOpen, MayUse};
 ghost use Rattle.judgement.specs.Judgement.{IsPlain, IsTaken};
 ghost use Rattle.judgement.specs.Blocks.{SaysOf};
 ghost use Rattle.judgement.specs.Fragments.{IsOfBlock};
@@ -92,10 +92,11 @@ pub fn parts_may_go()
 {}
 
 /// Where moves led, outboxes are kept of just the active streams, in the order in which they were opened; and the next connection is opened for
-/// the stream of the last frame, as the rule asks.
+/// the stream of the last frame, or an idle one is given to it, as the rule asks.
 pub fn states_are_sound()
     ensures boxes { (known : Known) (run : List Move) (s : State) → IsLed known run s → map (λ k. k.id) s.offers.kept ≡ reverse (active_in (told_by s)) }
-    ensures opens { (known : Known) (run : List Move) (s : State) → IsLed known run s → (k route : ℕ) → MayOpen s.requests k route → OpensNext (sight_in (told_by s)) k }
+    ensures opens { (known : Known) (run : List Move) (s : State) → IsLed known run s → (k route : ℕ) → MayOpen s.requests k route → BeginsNext (sight_in (told_by s)) k }
+    ensures uses { (known : Known) (run : List Move) (s : State) → IsLed known run s → (k : ℕ) (octets : List ℕ) → MayUse s.requests k octets → BeginsNext (sight_in (told_by s)) k }
 {}
 
 /// Parts of a step behind one another perform together; and doing nothing performs.

@@ -11,11 +11,11 @@ use Rattle.h1_writer.specs.Sending.Stage.{Whole, Counting, Holding, Chunking}
 use Rattle.requests.specs.Waits.{Request, MayEnd, IsEnded, IsEndedText}
 
 -- the body may be pushed
-pub may_push : (parts : HeadParts) (text : List ℕ) (stage : Stage) (body : List ℕ) → Sending false parts false text [] [] stage → (stage ≡ Whole → ⊥) → HasLength parts.length body → MayPush stage (length body)
-may_push parts text Whole body sending on fits = on refl
-may_push parts text (Counting left) body sending on fits = let same : length body ≡ 0 + left = subst (λ o. HasLength o body) sending.declared fits in omega (arith, same)
-may_push parts text (Holding octet) body sending on fits = subst (λ o. HasLength o body) sending.declared fits
-may_push parts text Chunking body sending on fits = tt
+pub may_push : (keep : Bool) (parts : HeadParts) (text : List ℕ) (stage : Stage) (body : List ℕ) → Sending keep parts false text [] [] stage → (stage ≡ Whole → ⊥) → HasLength parts.length body → MayPush stage (length body)
+may_push keep parts text Whole body sending on fits = on refl
+may_push keep parts text (Counting left) body sending on fits = let same : length body ≡ 0 + left = subst (λ o. HasLength o body) sending.declared fits in omega (arith, same)
+may_push keep parts text (Holding octet) body sending on fits = subst (λ o. HasLength o body) sending.declared fits
+may_push keep parts text Chunking body sending on fits = tt
 
 -- the octets of a piece
 one_piece : (body : List ℕ) → concat (piece_of body) ≡ body
@@ -23,15 +23,15 @@ one_piece [] = refl
 one_piece (octet ∷ body) = append-nil (octet ∷ body)
 
 -- behind the body in one piece the text may be ended
-pub may_finish : (parts : HeadParts) (text : List ℕ) (stage : Stage) (body : List ℕ) → Sending false parts false text (piece_of body) [] stage → (stage ≡ Whole → ⊥) → HasLength parts.length body → MayFinish stage
-may_finish parts text Whole body sending on fits = on refl
-may_finish parts text (Counting left) body sending on fits =
+pub may_finish : (keep : Bool) (parts : HeadParts) (text : List ℕ) (stage : Stage) (body : List ℕ) → Sending keep parts false text (piece_of body) [] stage → (stage ≡ Whole → ⊥) → HasLength parts.length body → MayFinish stage
+may_finish keep parts text Whole body sending on fits = on refl
+may_finish keep parts text (Counting left) body sending on fits =
     let same : length body ≡ length (concat (piece_of body)) + left = subst (λ o. HasLength o body) sending.declared fits in
     let count : length (concat (piece_of body)) ≡ length body = ap length (one_piece body) in
     let more : 0 < left = sending.more in
     omega (arith, same, count, more)
-may_finish parts text (Holding octet) body sending on fits = tt
-may_finish parts text Chunking body sending on fits = tt
+may_finish keep parts text (Holding octet) body sending on fits = tt
+may_finish keep parts text Chunking body sending on fits = tt
 
 -- what is written for the body, and for the end behind it
 pub both : (old between new : Stage) (first second octets : List ℕ) (trailers : List Field) → Continues old first octets [] between → Continues between second [] trailers new → Continues old (first ++ second) octets trailers new
@@ -65,13 +65,13 @@ counted keep parts ended text body pieces left trailers all s =
     }
 
 -- where the text may not be ended yet, a length was declared
-pub ends_counted : (parts : HeadParts) (text : List ℕ) (stage : Stage) (body : List ℕ) (trailers : List Field) → Sending false parts false text [] [] stage → (stage ≡ Whole → ⊥) → (MayFinish stage → ⊥) → HasLength parts.length body → Continues stage body body trailers Whole
-ends_counted parts text Whole body trailers sending on not_yet fits = absurd (on refl)
-ends_counted parts text (Counting left) body trailers sending on not_yet fits =
+pub ends_counted : (keep : Bool) (parts : HeadParts) (text : List ℕ) (stage : Stage) (body : List ℕ) (trailers : List Field) → Sending keep parts false text [] [] stage → (stage ≡ Whole → ⊥) → (MayFinish stage → ⊥) → HasLength parts.length body → Continues stage body body trailers Whole
+ends_counted keep parts text Whole body trailers sending on not_yet fits = absurd (on refl)
+ends_counted keep parts text (Counting left) body trailers sending on not_yet fits =
     let same : length body ≡ 0 + left = subst (λ o. HasLength o body) sending.declared fits in
-    λ keep parts' ended text' pieces s. counted keep parts' ended text' body pieces left trailers (omega (arith, same)) s
-ends_counted parts text (Holding octet) body trailers sending on not_yet fits = absurd (not_yet tt)
-ends_counted parts text Chunking body trailers sending on not_yet fits = absurd (not_yet tt)
+    λ keep' parts' ended text' pieces s. counted keep' parts' ended text' body pieces left trailers (omega (arith, same)) s
+ends_counted keep parts text (Holding octet) body trailers sending on not_yet fits = absurd (not_yet tt)
+ends_counted keep parts text Chunking body trailers sending on not_yet fits = absurd (not_yet tt)
 
 -- ---- a request that waits, as it lies in one piece of memory
 
@@ -84,7 +84,7 @@ module _ (route head body : ℕ) (sender : Stage) (items octets : List ℕ) (tra
   ends_as_it_is request text view joined is may not_yet = subst (λ (r : Request). MayEnd r octets → IsEnded r octets trailers text) view (λ m. record {
     written = drop body items ++ octets;
     is = is ∙ ap (λ (os : List ℕ). os ++ octets) (sym (take-append-drop head items) ∙ ap (λ (n : ℕ). take head items ++ drop n items) (sym joined)) ∙ append_assoc (take head items) (drop body items) octets;
-    continues = ends_counted m.parts (take head items) sender (drop body items ++ octets) trailers m.sending m.goes_on not_yet m.has_length;
+    continues = ends_counted m.keep m.parts (take head items) sender (drop body items ++ octets) trailers m.sending m.goes_on not_yet m.has_length;
   }) may
 
   -- it is written at once, since nothing of its body came before

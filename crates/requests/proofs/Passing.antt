@@ -15,7 +15,7 @@ use Rattle.requests.proofs.Ending.{both, unended}
 -- behind octets that end the body the text may be ended
 pub may_finish : (old new : Stage) (octets written : List ℕ) → MayGo old octets true → Continues old written octets [] new → (new ≡ Whole → ⊥) → MayFinish new
 may_finish old new octets written m continues part =
-    end_to_finish false m.parts m.ended (m.text ++ written) (m.pieces ++ piece_of octets) new (continues false m.parts m.ended m.text m.pieces m.sending) part
+    end_to_finish m.keep m.parts m.ended (m.text ++ written) (m.pieces ++ piece_of octets) new (continues m.keep m.parts m.ended m.text m.pieces m.sending) part
     (subst (HasLength m.parts.length) (sym (concat_more m.pieces octets)) (m.has_length refl))
 
 -- what goes on behind octets that don't end the body
@@ -35,19 +35,20 @@ goes_out old between new octets first second trailers ends e one two whole = rec
 }
 
 -- octets may go out behind the first ones, as far as they find room there
-pub goes_further : (parts : HeadParts) (text : List ℕ) (old new : Stage) (octets written more : List ℕ) (trailers : List Field) (ends : Bool) → Sending false parts false text [] [] old → GoesOn old octets trailers false written new
+pub goes_further : (keep : Bool) (parts : HeadParts) (text : List ℕ) (old new : Stage) (octets written more : List ℕ) (trailers : List Field) (ends : Bool) → Sending keep parts false text [] [] old → GoesOn old octets trailers false written new
     → HasRoom parts.length (piece_of octets) (length more) → (ends ≡ true → HasLength parts.length (concat (piece_of octets) ++ more)) → MayGo new more ends
-goes_further parts text old new octets written more trailers ends s on room whole = record {
+goes_further keep parts text old new octets written more trailers ends s on room whole = record {
+  keep = keep;
   parts = parts;
   ended = false;
   text = text ++ written;
   pieces = piece_of octets;
-  sending = unfinished new (on.part refl) (on.continues false parts false text [] s);
-  may_push = room_to_push false parts false (text ++ written) (piece_of octets) new (length more) (unfinished new (on.part refl) (on.continues false parts false text [] s)) (on.part refl) room;
+  sending = unfinished new (on.part refl) (on.continues keep parts false text [] s);
+  may_push = room_to_push keep parts false (text ++ written) (piece_of octets) new (length more) (unfinished new (on.part refl) (on.continues keep parts false text [] s)) (on.part refl) room;
   has_length = whole;
 }
   where
-    unfinished : (stage : Stage) → (stage ≡ Whole → ⊥) → Sending false parts false (text ++ written) (piece_of octets) trailers stage → Sending false parts false (text ++ written) (piece_of octets) [] stage
+    unfinished : (stage : Stage) → (stage ≡ Whole → ⊥) → Sending keep parts false (text ++ written) (piece_of octets) trailers stage → Sending keep parts false (text ++ written) (piece_of octets) [] stage
     unfinished Whole none s = absurd (none refl)
     unfinished (Counting left) none s = s
     unfinished (Holding octet) none s = s

@@ -6,8 +6,9 @@ use Rattle.h1_writer.specs.Sending.Stage.{Whole}
 use Rattle.requests.specs.declared.waiting.Begun.{Begun}
 use Rattle.requests.specs.declared.waiting.Begun.TheVariants as begun
 
--- What was written for a head that ended its stream is its whole text; of any other it waits, with nothing of its body.
-abbrev pub IsBegun : HeadParts → Bool → ℕ → Begun → Type 0
-IsBegun parts ended route (begun.Whole text) = (ended ≡ true) × Sending false parts ended text.items [] [] Whole
-IsBegun parts ended route (begun.Waits request) =
-    (ended ≡ false) × Sending false parts ended request.text [] [] request.stage × (request.stage ≡ Whole → ⊥) × (request.route ≡ route) × (request.body ≡ [])
+-- What was written for a head that ended its stream is its whole text, for a connection that is kept or isn't; of any other it waits, with
+-- nothing of its body.
+abbrev pub IsBegun : Bool → HeadParts → Bool → ℕ → Begun → Type 0
+IsBegun keep parts ended route (begun.Whole text) = (ended ≡ true) × Sending keep parts ended text.items [] [] Whole
+IsBegun keep parts ended route (begun.Waits request) =
+    (ended ≡ false) × Sending keep parts ended request.text [] [] request.stage × (request.stage ≡ Whole → ⊥) × (request.route ≡ route) × (request.body ≡ [])

@@ -10,11 +10,12 @@ use Rattle.h1_writer.specs.Sending.Stage.{Whole}
 -- These octets may go out, and end the body or don't: its text is that of a head and of pieces, which with them are no longer than declared,
 -- and just as long where they end it.
 pub record MayGo (stage : Stage) (octets : List ℕ) (ends : Bool) : Type 0 where
+  pub keep : Bool
   pub parts : HeadParts
   pub ended : Bool
   pub text : List ℕ
   pub pieces : List (List ℕ)
-  pub sending : Sending false parts ended text pieces [] stage
+  pub sending : Sending keep parts ended text pieces [] stage
   pub may_push : MayPush stage (length octets)
   pub has_length : ends ≡ true → HasLength parts.length (concat pieces ++ octets)
 

@@ -1,5 +1,5 @@
 -- A request that waits for its end, as the rule of requests has it, and what it may end with.
-use Rattle.std.specs.Prelude.{◌≡◌, ℕ, ◌+◌, ◌<◌, ◌≤◌, false, List, [], ◌++◌}
+use Rattle.std.specs.Prelude.{◌≡◌, ℕ, ◌+◌, ◌<◌, ◌≤◌, Bool, false, List, [], ◌++◌}
 use Rattle.model.specs.Messages.{Field}
 use Rattle.model.specs.Http2.{HasLength}
 use Rattle.request_rules.specs.Heads.{HeadParts}
@@ -24,8 +24,9 @@ pub record IsLaid (stage : Stage) (head body all : ℕ) : Type 0 where
 
 -- The request may end behind these octets: its body has the length that its head declares, if it declares one.
 pub record MayEnd (request : Request) (octets : List ℕ) : Type 0 where
+  pub keep : Bool
   pub parts : HeadParts
-  pub sending : Sending false parts false request.text [] [] request.stage
+  pub sending : Sending keep parts false request.text [] [] request.stage
   pub goes_on : request.stage ≡ Whole → ⊥
   pub has_length : HasLength parts.length (request.body ++ octets)
 
@@ -37,8 +38,9 @@ pub record IsEnded (request : Request) (octets : List ℕ) (trailers : List Fiel
 
 -- Nothing of this body was sent, whose octets came in any pieces: its length is the declared one, if one is, and the text may be ended behind it.
 pub record Ends (stage : Stage) (head body : List ℕ) : Type 0 where
+  pub keep : Bool
   pub parts : HeadParts
-  pub sending : Sending false parts false head [] [] stage
+  pub sending : Sending keep parts false head [] [] stage
   pub goes_on : stage ≡ Whole → ⊥
   pub has_length : HasLength parts.length body
 

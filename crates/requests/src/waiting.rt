@@ -65,19 +65,20 @@ fn room_for(alloc: Global, length: Option<u64>) -> Result<Vec<u8>, AllocError>
     }
 }
 
-/// Writes a request's head (RFC 9112, sections 2 to 3 and 6), which ends its stream or doesn't; the place of its route is kept. An
-/// `Err` says that memory was refused.
+/// Writes a request's head (RFC 9112, sections 2 to 3 and 6), which ends its stream or doesn't, for a connection that is kept for another request
+/// or is closed behind this one (RFC 9112, section 9.6); the place of its route is kept. An `Err` says that memory was refused.
 pub fn begin(
     alloc: Global,
     head: &RequestHead,
     ended: bool,
+    keep: bool,
     route: u32,
 ) -> Result<Begun, AllocError>
     requires { ended ≡ true → HasLength head.now.length [] }
-    ensures { IfOk result (IsBegun head.now ended route) }
+    ensures { IfOk result (IsBegun keep head.now ended route) }
 {
     let mut octets = room_for(alloc, head.length())?;
-    let sender = Sender::start(head, ended, false, &mut octets)?;
+    let sender = Sender::start(head, ended, keep, &mut octets)?;
     if ended {
         return Ok(Begun::Whole(octets));
     }

@@ -1,6 +1,7 @@
 -- What the parser's answer says of the heads that are taken.
 use Rattle.std.proofs.Common.{suc, ◌≡◌, ℕ, ◌<◌, ◌≤◌, Bool, List, [], ◌∷◌, ◌++◌, length, get_or, take, drop, map, refl, sym, ap, ◌∙◌, length-take-le, arith}
-use Rattle.std.specs.Prelude.{Some}
+use Rattle.std.specs.Prelude.{Some, not, ◌&&◌, ◌==◌, codes, bytes_eq}
+use Rattle.std.specs.List.{list_any}
 use Rattle.std.proofs.lemmas.List.{append-nil}
 use Rattle.std.proofs.Math.Seq.{take-append_seam}
 use Rattle.httparse.specs.Grammar as grammar
@@ -10,9 +11,9 @@ use Rattle.httparse.specs.declared.spans.ResponseSpans.{ResponseSpans}
 use Rattle.httparse.specs.Spans.{IsResponseAt, IsResponseOf, IsResponseWithin, AreFieldsAt, header_bytes, name_and_value}
 use Rattle.model.specs.Octets.{lower}
 use Rattle.model.specs.Messages.{Field}
-use Rattle.model.specs.ResponseHeads.{Head, Framing, IsTaken, meant, framing_of, framing_for, head_of, passed, without_framing}
+use Rattle.model.specs.ResponseHeads.{Head, Framing, IsTaken, meant, named_by_connection, framing_of, framing_for, head_of, passed, without_framing}
 use Rattle.model.proofs.ResponseHeadReadings.{Spelled}
-use Rattle.response_texts.specs.Heads.{field_from, HasNoHead}
+use Rattle.response_texts.specs.Heads.{field_from, leaves_open, HasNoHead}
 use Rattle.response_texts.proofs.Values.{head_values}
 
 pub none_taken : (to_head : Bool) (text : List ℕ) → ((more front past : List ℕ) (k : grammar.ResponseHead) → text ++ more ≡ front ++ past → IsTaken front k → ⊥) → HasNoHead to_head text
@@ -92,3 +93,12 @@ framed to_head text spans found fields framing of is some =
     let lines = is ∙ meant_at text spans found.headers of.0.fields of.1.fields in
     sym (ap (λ (fs : List Field). framing_for to_head of.0.minor (status_code of.0) fs) lines) ∙ ap (λ n. framing_for to_head of.0.minor n fields) (sym of.1.code)
     ∙ ap (λ n. framing_for to_head n found.code fields) (sym of.1.version) ∙ some
+
+-- the head lets its connection stay open just where its version and its fields Connection do
+pub opens : (text : List ℕ) (spans : List HeaderSpan) (found : ResponseSpans) (connections fields : List Field) (stays : Bool) → (of : IsResponseOf text spans found)
+    → fields ≡ map (field_from text) (take found.headers spans) → named_by_connection connections ≡ named_by_connection fields
+    → stays ≡ (found.version == 1 && not (list_any (bytes_eq (codes "close")) (named_by_connection connections))) → stays ≡ leaves_open of.0
+opens text spans found connections fields stays of is names told =
+    let lines = is ∙ meant_at text spans found.headers of.0.fields of.1.fields in
+    told ∙ ap (λ n. n == 1 && not (list_any (bytes_eq (codes "close")) (named_by_connection connections))) of.1.version
+    ∙ ap (λ (ns : List (List ℕ)). of.0.minor == 1 && not (list_any (bytes_eq (codes "close")) ns)) (names ∙ ap named_by_connection lines)

@@ -1,6 +1,6 @@
 //! What the fields of a response's head say.
 
-ghost use Rattle.std.specs.Prelude.{◌≡◌, ◌≤◌, ◌++◌, not, ◌&&◌, ◌||◌, [], ◌∷◌, codes, bytes_eq, filter, length, IfOk, OnOk};
+ghost use Rattle.std.specs.Prelude.{◌≡◌, ◌≤◌, ◌++◌, not, ◌&&◌, ◌||◌, ◌==◌, [], ◌∷◌, codes, bytes_eq, filter, length, IfOk, OnOk};
 ghost use Rattle.std.specs.List.{list_any};
 ghost use Rattle.model.specs.Http1.{values_of, without};
 ghost use Rattle.model.specs.Http2.{names_not_in_trailers};
@@ -78,6 +78,13 @@ pub fn connections(alloc: Global, fields: &[Field]) -> Result<Vec<Field>, AllocE
         }
     }
     Ok(found)
+}
+
+/// Whether a head of this version with these fields Connection lets its connection stay open (RFC 9112, sections 9.3 and 9.6).
+pub fn leave_open(minor: u8, connections: &[Field]) -> bool
+    ensures { result ≡ (minor == 1 && not (list_any (bytes_eq (codes "close")) (named_by_connection connections.now))) }
+{
+    minor == 1 && !is_named_by_connection(connections, b"close")
 }
 
 /// Drops the fields that aren't passed back, by the fields Connection of their head.

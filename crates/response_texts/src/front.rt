@@ -24,8 +24,8 @@ pub enum FrontRead {
     OnGoing(Vec<u8>),
     /// An interim head.
     InterimAt(ResponseHead, usize),
-    /// A final head, how its body is framed, and its fields Connection.
-    FinalAt(ResponseHead, Framing, Vec<Field>, usize),
+    /// A final head, how its body is framed, its fields Connection, and whether it lets its connection stay open.
+    FinalAt(ResponseHead, Framing, Vec<Field>, bool, usize),
 }
 
 /// Reads the head at the front of at most 16,384 octets, with room for some fields, and for all where these are too few.
@@ -68,8 +68,8 @@ fn read_there(
             Ok(FrontRead::OnGoing(Vec::from_slice(alloc, text)?))
         }
         Ok(HeadRead::Interim(head, used)) => Ok(FrontRead::InterimAt(head, used)),
-        Ok(HeadRead::Final(head, framing, connections, used)) => {
-            Ok(FrontRead::FinalAt(head, framing, connections, used))
+        Ok(HeadRead::Final(head, framing, connections, stays, used)) => {
+            Ok(FrontRead::FinalAt(head, framing, connections, stays, used))
         }
         Err(fault) => Err(fault),
     }
@@ -99,8 +99,8 @@ fn read_behind(
             Ok(FrontRead::OnGoing(text))
         }
         Ok(HeadRead::Interim(head, used)) => Ok(FrontRead::InterimAt(head, used - before)),
-        Ok(HeadRead::Final(head, framing, connections, used)) => {
-            Ok(FrontRead::FinalAt(head, framing, connections, used - before))
+        Ok(HeadRead::Final(head, framing, connections, stays, used)) => {
+            Ok(FrontRead::FinalAt(head, framing, connections, stays, used - before))
         }
         Err(fault) => Err(fault),
     }

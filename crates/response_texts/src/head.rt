@@ -24,8 +24,8 @@ pub enum HeadRead {
     More,
     /// An interim head.
     Interim(ResponseHead, usize),
-    /// A final head, how its body is framed, and its fields Connection.
-    Final(ResponseHead, Framing, Vec<Field>, usize),
+    /// A final head, how its body is framed, its fields Connection, and whether it lets its connection stay open.
+    Final(ResponseHead, Framing, Vec<Field>, bool, usize),
 }
 
 /// The field of a line.
@@ -106,5 +106,6 @@ fn take_head(
     };
     let passed = fields::passed_back(alloc, found.code, all, &connections)?;
     let head = ResponseHead::new(found.code, passed);
-    Ok(HeadRead::Final(head, framing, connections, found.len))
+    let stays = fields::leave_open(found.version, &connections);
+    Ok(HeadRead::Final(head, framing, connections, stays, found.len))
 }

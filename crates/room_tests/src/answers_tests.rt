@@ -114,7 +114,7 @@ fn a_whole_response_waits_for_its_end(rt: HostRuntime) -> Result<(), Fail> {
         Step::Hears(front, Heard::GoesOn),
         Step::Sends(Next::Early(103)),
         Step::Sends(Next::Nothing),
-        Step::Hears(rest, Heard::Whole),
+        Step::Hears(rest, Heard::Keepable),
         Step::Sends(Next::Final(200, false)),
         Step::Sends(Next::Octets(5, true)),
         Step::Sends(Next::Nothing),
@@ -133,7 +133,7 @@ fn a_streamed_response_goes_as_it_comes(rt: HostRuntime) -> Result<(), Fail> {
         Step::Sends(Next::Final(200, false)),
         Step::Sends(Next::Octets(3, false)),
         Step::Sends(Next::Nothing),
-        Step::Hears(rest, Heard::Whole),
+        Step::Hears(rest, Heard::Keepable),
         Step::Sends(Next::Octets(2, true)),
     ];
     let first = first_that_differs(rt.alloc(), Passing::Streaming, &steps)?;
@@ -178,6 +178,24 @@ fn the_end_makes_a_response_whole_or_cuts_it_short(rt: HostRuntime) -> Result<()
     Ok(())
 }
 
+#[test]
+fn a_whole_response_tells_whether_its_connection_may_be_kept(rt: HostRuntime) -> Result<(), Fail> {
+    let ends: [Step; 4] = [
+        Step::Hears(b"HTTP/1.1 204 No Content\r\n\r\n", Heard::Keepable),
+        Step::Hears(b"HTTP/1.1 204 No Content\r\n\r\nH", Heard::Finished),
+        Step::Hears(b"HTTP/1.0 204 No Content\r\n\r\n", Heard::Finished),
+        Step::Hears(
+            b"HTTP/1.1 204 No Content\r\nConnection: te, Close\r\n\r\n",
+            Heard::Finished,
+        ),
+    ];
+    for end in &ends {
+        let first = first_that_differs(rt.alloc(), Passing::Streaming, &[*end])?;
+        assert_eq!(rt; first, None);
+    }
+    Ok(())
+}
+
 /// A response in chunks, behind which two fields are passed back and one isn't.
 const TRAILING: &[u8] =
     b"HTTP/1.1 200 OK\r\nTransfer-Encoding: chunked\r\n\r\n2\r\nhi\r\n0\r\nX-A: 1\r\nContent-Length: 2\r\nX-B: 3\r\n\r\n";
@@ -185,7 +203,7 @@ const TRAILING: &[u8] =
 #[test]
 fn trailers_go_behind_the_body(rt: HostRuntime) -> Result<(), Fail> {
     let whole = [
-        Step::Hears(TRAILING, Heard::Whole),
+        Step::Hears(TRAILING, Heard::Keepable),
         Step::Sends(Next::Final(200, false)),
         Step::Sends(Next::Octets(2, false)),
         Step::Sends(Next::Trailers(2)),
@@ -199,7 +217,7 @@ fn trailers_go_behind_the_body(rt: HostRuntime) -> Result<(), Fail> {
         Step::Sends(Next::Final(200, false)),
         Step::Sends(Next::Octets(2, false)),
         Step::Sends(Next::Nothing),
-        Step::Hears(rest, Heard::Whole),
+        Step::Hears(rest, Heard::Keepable),
         Step::Sends(Next::Trailers(2)),
         Step::Sends(Next::Nothing),
     ];

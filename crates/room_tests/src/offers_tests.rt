@@ -215,7 +215,7 @@ fn streams_are_opened_and_closed(rt: HostRuntime) -> Result<(), Fail> {
 #[test]
 fn what_is_heard_goes_to_its_stream(rt: HostRuntime) -> Result<(), Fail> {
     let steps = [
-        Step::Hears(3, RESPONSE, Some(Heard::Whole)),
+        Step::Hears(3, RESPONSE, Some(Heard::Keepable)),
         Step::Waits(1, 9, Next::Nothing),
         Step::Sends(3, 9, Next::Final(200, false)),
         Step::Sends(3, 2, Next::Octets(2, false)),
@@ -239,7 +239,7 @@ fn a_stream_is_looked_for_behind_the_last_one(rt: HostRuntime) -> Result<(), Fai
 #[test]
 fn what_waits_of_a_body_is_held_for_its_stream(rt: HostRuntime) -> Result<(), Fail> {
     let steps = [
-        Step::Hears(3, RESPONSE, Some(Heard::Whole)),
+        Step::Hears(3, RESPONSE, Some(Heard::Keepable)),
         Step::Holds(3, 5),
         Step::Holds(1, 0),
         Step::Sends(3, 9, Next::Final(200, false)),
@@ -269,7 +269,7 @@ fn the_end_of_a_connection_ends_its_stream(rt: HostRuntime) -> Result<(), Fail> 
 #[test]
 fn a_reply_takes_the_place_of_a_response(rt: HostRuntime) -> Result<(), Fail> {
     let steps = [
-        Step::Hears(1, RESPONSE, Some(Heard::Whole)),
+        Step::Hears(1, RESPONSE, Some(Heard::Keepable)),
         Step::Replies(1, Cause::BadAnswer),
         Step::Replies(7, Cause::BadAnswer),
         Step::IsCut(1, false),
@@ -283,7 +283,7 @@ fn a_reply_takes_the_place_of_a_response(rt: HostRuntime) -> Result<(), Fail> {
 #[test]
 fn a_reply_behind_a_final_head_is_a_reset(rt: HostRuntime) -> Result<(), Fail> {
     let steps = [
-        Step::Hears(1, RESPONSE, Some(Heard::Whole)),
+        Step::Hears(1, RESPONSE, Some(Heard::Keepable)),
         Step::Sends(1, 9, Next::Final(200, false)),
         Step::Turns(FIRST_SIZE, 65535, Some(1)),
         Step::Replies(1, Cause::LargeBody),
@@ -299,11 +299,11 @@ fn a_reply_behind_a_final_head_is_a_reset(rt: HostRuntime) -> Result<(), Fail> {
 fn turns_go_round(rt: HostRuntime) -> Result<(), Fail> {
     let steps = [
         Step::Turns(FIRST_SIZE, 9, None),
-        Step::Hears(1, RESPONSE, Some(Heard::Whole)),
+        Step::Hears(1, RESPONSE, Some(Heard::Keepable)),
         Step::Anew,
-        Step::Hears(3, RESPONSE, Some(Heard::Whole)),
+        Step::Hears(3, RESPONSE, Some(Heard::Keepable)),
         Step::Anew,
-        Step::Hears(5, RESPONSE, Some(Heard::Whole)),
+        Step::Hears(5, RESPONSE, Some(Heard::Keepable)),
         Step::Turns(FIRST_SIZE, 9, Some(1)),
         Step::Sends(1, 2, Next::Final(200, false)),
         Step::Turns(FIRST_SIZE, 9, Some(3)),
@@ -326,7 +326,7 @@ fn turns_go_round(rt: HostRuntime) -> Result<(), Fail> {
 #[test]
 fn trailers_wait_for_their_body_and_for_no_window(rt: HostRuntime) -> Result<(), Fail> {
     let steps = [
-        Step::Hears(3, TRAILING, Some(Heard::Whole)),
+        Step::Hears(3, TRAILING, Some(Heard::Keepable)),
         Step::Opens(3),
         Step::Sends(3, 9, Next::Final(200, false)),
         Step::Turns(0, 9, None),
@@ -345,7 +345,7 @@ fn trailers_wait_for_their_body_and_for_no_window(rt: HostRuntime) -> Result<(),
 #[test]
 fn closed_windows_hold_octets_and_no_heads(rt: HostRuntime) -> Result<(), Fail> {
     let steps = [
-        Step::Hears(3, RESPONSE, Some(Heard::Whole)),
+        Step::Hears(3, RESPONSE, Some(Heard::Keepable)),
         Step::Opens(3),
         Step::Turns(0, -1, Some(3)),
         Step::Sends(3, 9, Next::Final(200, false)),

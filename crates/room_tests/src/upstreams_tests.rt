@@ -1,6 +1,6 @@
 //! Requests that are held and connections to upstreams, with ample memory.
 
-ghost use Rattle.std.specs.Prelude.{◌≡◌, None};
+ghost use Rattle.std.specs.Prelude.{◌≡◌, ◌+◌, ◌<◌, None, OnOk};
 ghost use Rattle.upstreams.specs.Kept.{nothing};
 
 use answers::{Answer, Heard, Passing};
@@ -10,10 +10,13 @@ use request_rules::{RequestHead, check_head};
 use std::alloc::{AllocError, Global};
 use std::process::Abort;
 use std::test::*;
-use upstreams::{Connection, Due, Outgoing, Upstreams};
+use upstreams::{Connection, Due, Outgoing, Progress, Upstreams, Verdict};
 
 /// The text of a request without a body.
 const GET: &[u8] = b"GET / HTTP/1.1\r\nhost: h\r\nvia: 2.0 h2gw\r\nconnection: close\r\n\r\n";
+
+/// The same, on a connection that is kept for further requests.
+const KEPT: &[u8] = b"GET / HTTP/1.1\r\nhost: h\r\nvia: 2.0 h2gw\r\n\r\n";
 
 /// The text of a request whose body of five octets is whole.
 const POST: &[u8] =
@@ -45,13 +48,13 @@ fn head_of(
     Ok(check_head(alloc, &fields, ended).expect(rt, "a head"))
 }
 
-/// The stream of an open connection, whether its response is whole, and how many octets wait for its side.
-fn facts_of(connection: Option<&Connection>) -> Option<(u32, u32, bool, u64)> {
+/// The number of an open connection, its stream, how far its response is, and how many octets wait for its side.
+fn facts_of(connection: Option<&Connection>) -> Option<(u32, u32, Progress, u64)> {
     match connection {
         Some(connection) => Some((
             connection.number(),
             connection.stream(),
-            connection.is_whole(),
+            connection.progress(),
             connection.untaken(),
         )),
         None => None,
@@ -67,7 +70,7 @@ fn is_nothing(due: &Due) -> bool {
 fn due_at_once(upstreams: &mut Upstreams, head: &RequestHead) -> Result<Outgoing, Fail>
     requires { head.now.length ≡ None }
 {
-    match upstreams.begin(1, 4, head, true, false)? {
+    match upstreams.begin(1, 4, head, true, false, false)? {
         Due::ToOpen(due) => Ok(due),
         _ => Err(Fail::from("it waits")),
     }
@@ -93,7 +96,7 @@ fn due_behind(
 ) -> Result<Due, Fail>
     requires { head.now.length ≡ None }
 {
-    assert!(rt; is_nothing(&upstreams.begin(3, 7, head, false, false)?));
+    assert!(rt; is_nothing(&upstreams.begin(3, 7, head, false, false, false)?));
     assert!(rt; is_nothing(&upstreams.take_body(3, b"hel", false, trailers)?));
     Ok(upstreams.take_body(3, b"lo", true, trailers)?)
 }
@@ -141,18 +144,18 @@ fn trailers_are_due_with_the_end(rt: HostRuntime) -> Result<(), Fail> {
 fn open_two(upstreams: &mut Upstreams, first: u32, second: u32) -> Result<(u32, u32), AllocError>
     requires { upstreams.old ≡ nothing }
 {
-    let one = upstreams.open(first, false, Passing::Streaming, None)?;
-    let other = upstreams.open(second, false, Passing::Streaming, None)?;
+    let one = upstreams.open(first, 4, false, Passing::Streaming, None)?;
+    let other = upstreams.open(second, 7, false, Passing::Streaming, None)?;
     Ok((one, other))
 }
 
 /// What is seen of the connection with this number.
-fn found(upstreams: &Upstreams, k: u32) -> Option<(u32, u32, bool, u64)> {
+fn found(upstreams: &Upstreams, k: u32) -> Option<(u32, u32, Progress, u64)> {
     facts_of(upstreams.find(k))
 }
 
 /// What is seen of the newest connection of a stream.
-fn found_of_stream(upstreams: &Upstreams, id: u32) -> Option<(u32, u32, bool, u64)> {
+fn found_of_stream(upstreams: &Upstreams, id: u32) -> Option<(u32, u32, Progress, u64)> {
     facts_of(upstreams.of_stream(id))
 }
 
@@ -165,35 +168,44 @@ fn is_streaming(upstreams: &Upstreams, k: u32) -> bool {
 fn assert_both_are_open(rt: &impl Abort, upstreams: &Upstreams) {
     let open = upstreams.connections();
     assert_eq!(rt; open.len(), 2);
-    assert_eq!(rt; facts_of(open.first()), Some((1, 5, false, 0)));
-    assert_eq!(rt; facts_of(open.last()), Some((2, 3, false, 0)));
+    assert_eq!(rt; facts_of(open.first()), Some((1, 5, Progress::Pending, 0)));
+    assert_eq!(rt; facts_of(open.last()), Some((2, 3, Progress::Pending, 0)));
 }
 
 #[test]
 fn connections_are_found_by_number_and_by_stream(rt: HostRuntime) -> Result<(), Fail> {
     let mut upstreams = Upstreams::new(rt.alloc());
     assert_eq!(rt; open_two(&mut upstreams, 5, 3)?, (1, 2));
-    assert_eq!(rt; found(&upstreams, 1), Some((1, 5, false, 0)));
-    assert_eq!(rt; found_of_stream(&upstreams, 3), Some((2, 3, false, 0)));
+    assert_eq!(rt; found(&upstreams, 1), Some((1, 5, Progress::Pending, 0)));
+    assert_eq!(rt;
+        found_of_stream(&upstreams, 3),
+        Some((2, 3, Progress::Pending, 0))
+    );
     assert!(rt; is_streaming(&upstreams, 1));
     assert_both_are_open(&rt, &upstreams);
     upstreams.close(1);
     assert_eq!(rt; found(&upstreams, 1), None);
     assert_eq!(rt; found_of_stream(&upstreams, 5), None);
-    assert_eq!(rt; found(&upstreams, 2), Some((2, 3, false, 0)));
+    assert_eq!(rt; found(&upstreams, 2), Some((2, 3, Progress::Pending, 0)));
     Ok(())
 }
 
 #[test]
 fn octets_are_put_out_and_taken(rt: HostRuntime) -> Result<(), Fail> {
     let mut upstreams = Upstreams::new(rt.alloc());
-    let k = upstreams.open(5, false, Passing::Streaming, None)?;
+    let k = upstreams.open(5, 4, false, Passing::Streaming, None)?;
     assert!(rt; upstreams.has_room(k, 10));
     upstreams.put(k, 10);
     assert!(rt; !upstreams.has_room(k, u64::MAX));
-    assert_eq!(rt; facts_of(upstreams.find(k)), Some((1, 5, false, 10)));
+    assert_eq!(rt;
+        facts_of(upstreams.find(k)),
+        Some((1, 5, Progress::Pending, 10))
+    );
     upstreams.take(k, 4);
-    assert_eq!(rt; facts_of(upstreams.find(k)), Some((1, 5, false, 6)));
+    assert_eq!(rt;
+        facts_of(upstreams.find(k)),
+        Some((1, 5, Progress::Pending, 6))
+    );
     Ok(())
 }
 
@@ -201,16 +213,121 @@ fn octets_are_put_out_and_taken(rt: HostRuntime) -> Result<(), Fail> {
 fn a_response_becomes_whole(rt: HostRuntime) -> Result<(), Fail> {
     let mut upstreams = Upstreams::new(rt.alloc());
     let (first, second) = open_two(&mut upstreams, 5, 7)?;
-    upstreams.mark_whole(first);
-    assert_eq!(rt; found(&upstreams, first), Some((1, 5, true, 0)));
-    assert_eq!(rt; found(&upstreams, second), Some((2, 7, false, 0)));
+    upstreams.mark_heard(first, Verdict::Finished);
+    upstreams.mark_heard(second, Verdict::Partly);
+    assert_eq!(rt; found(&upstreams, first), Some((1, 5, Progress::Done, 0)));
+    assert_eq!(rt;
+        found(&upstreams, second),
+        Some((2, 7, Progress::Pending, 0))
+    );
+    Ok(())
+}
+
+#[test]
+fn an_idle_connection_is_given_to_another_stream(rt: HostRuntime) -> Result<(), Fail> {
+    let mut upstreams = Upstreams::new(rt.alloc());
+    let (first, _) = open_two(&mut upstreams, 5, 7)?;
+    upstreams.mark_heard(first, Verdict::Keepable);
+    assert_eq!(rt; found(&upstreams, first), Some((1, 5, Progress::Idle, 0)));
+    assert_eq!(rt; found_of_stream(&upstreams, 5), None);
+    assert_eq!(rt;
+        (upstreams.least_idle(4), upstreams.least_idle(7)),
+        (Some(1), None)
+    );
+    upstreams.give(first, 9, true, Passing::Streaming, None)?;
+    assert_eq!(rt;
+        found_of_stream(&upstreams, 9),
+        Some((1, 9, Progress::Pending, 0))
+    );
+    assert_eq!(rt; upstreams.least_idle(4), None);
+    Ok(())
+}
+
+#[test]
+fn what_was_put_out_stays_counted_behind_a_kept_connection(rt: HostRuntime) -> Result<(), Fail> {
+    let mut upstreams = Upstreams::new(rt.alloc());
+    let k = upstreams.open(5, 4, false, Passing::Streaming, None)?;
+    assert!(rt; upstreams.has_room(k, 10));
+    upstreams.put(k, 10);
+    upstreams.mark_heard(k, Verdict::Keepable);
+    upstreams.give(k, 9, false, Passing::Streaming, None)?;
+    assert_eq!(rt; found(&upstreams, k), Some((1, 9, Progress::Pending, 10)));
+    Ok(())
+}
+
+/// Opens three connections by this route.
+fn open_three(upstreams: &mut Upstreams, route: u32) -> Result<(), AllocError>
+    requires { upstreams.old.count < 9000 }
+    ensures { OnOk result (upstreams.new.count ≡ upstreams.old.count + 3) }
+{
+    upstreams.open(5, route, false, Passing::Streaming, None)?;
+    upstreams.open(7, route, false, Passing::Streaming, None)?;
+    upstreams.open(9, route, false, Passing::Streaming, None)?;
+    Ok(())
+}
+
+/// Nine connections are open, three by each of three routes.
+fn open_nine(upstreams: &mut Upstreams) -> Result<(), AllocError>
+    requires { upstreams.old ≡ nothing }
+{
+    open_three(upstreams, 7)?;
+    open_three(upstreams, 4)?;
+    open_three(upstreams, 7)
+}
+
+#[test]
+fn a_ninth_connection_is_not_kept(rt: HostRuntime) -> Result<(), Fail> {
+    let mut upstreams = Upstreams::new(rt.alloc());
+    open_nine(&mut upstreams)?;
+    for k in 1..10 {
+        upstreams.mark_heard(10 - k, Verdict::Keepable);
+    }
+    assert_eq!(rt; found(&upstreams, 1), Some((1, 5, Progress::Done, 0)));
+    assert_eq!(rt;
+        (upstreams.least_idle(7), upstreams.least_idle(4)),
+        (Some(2), Some(4))
+    );
+    upstreams.close(9);
+    upstreams.mark_heard(1, Verdict::Keepable);
+    assert_eq!(rt; upstreams.least_idle(7), Some(1));
+    Ok(())
+}
+
+/// The number of the connection that a request without a body is to go out on, which is kept.
+fn used_for(
+    rt: &impl Abort,
+    upstreams: &mut Upstreams,
+    head: &RequestHead,
+    route: u32,
+) -> Result<Option<u32>, Fail>
+    requires { head.now.length ≡ None }
+{
+    match upstreams.begin(11, route, head, true, true, false)? {
+        Due::ToUse { number, request } => {
+            assert_eq!(rt; (request.stream, request.route), (11, route));
+            assert_eq!(rt; request.text.as_slice(), KEPT);
+            Ok(Some(number))
+        }
+        _ => Ok(None),
+    }
+}
+
+#[test]
+fn a_request_goes_out_on_an_idle_connection_of_its_route(rt: HostRuntime) -> Result<(), Fail> {
+    let head = head_of(rt.alloc(), &rt, b"GET", true)?;
+    assert!(rt; head.length().is_none());
+    let mut upstreams = Upstreams::new(rt.alloc());
+    let (_, second) = open_two(&mut upstreams, 5, 7)?;
+    upstreams.mark_heard(second, Verdict::Keepable);
+    assert_eq!(rt; used_for(&rt, &mut upstreams, &head, 7)?, Some(2));
+    assert_eq!(rt; used_for(&rt, &mut upstreams, &head, 4)?, None);
     Ok(())
 }
 
 /// One connection is open, whose number is 1.
 fn one(alloc: Global) -> Result<Upstreams, AllocError> {
     let mut upstreams = Upstreams::new(alloc);
-    upstreams.open(5, false, Passing::Streaming, None)?;
+    upstreams.open(5, 4, false, Passing::Streaming, None)?;
     Ok(upstreams)
 }
 
@@ -253,7 +370,7 @@ fn assert_goes_on(
     let first = hear_on(upstreams, alloc, 1, b"HTTP/1.1 204 No Content\r\n", outbox)?;
     assert_eq!(rt; first, Heard::GoesOn);
     let second = hear_on(upstreams, alloc, 1, b"\r\n", outbox)?;
-    assert_eq!(rt; second, Heard::Whole);
+    assert_eq!(rt; second, Heard::Keepable);
     Ok(())
 }
 
@@ -268,7 +385,7 @@ fn an_answer_is_lent_out_and_put_back(rt: HostRuntime) -> Result<(), Fail> {
 fn due_beside(rt: &impl Abort, upstreams: &mut Upstreams, head: &RequestHead) -> Result<Due, Fail>
     requires { head.now.length ≡ None }
 {
-    assert!(rt; is_nothing(&upstreams.begin(3, 7, head, false, false)?));
+    assert!(rt; is_nothing(&upstreams.begin(3, 7, head, false, false, false)?));
     upstreams.forget(5);
     Ok(upstreams.take_body(3, b"y", true, &[])?)
 }
@@ -297,10 +414,16 @@ fn assert_goes_out(
     requires first { upstreams.old ≡ nothing }
     requires undeclared { head.now.length ≡ None }
 {
-    let Due::ToOpen(request) = upstreams.begin(3, 7, head, false, true)? else {
+    let Due::ToOpen(request) = upstreams.begin(3, 7, head, false, false, true)? else {
         return Err(Fail::from("it waits"));
     };
-    let k = upstreams.open(request.stream, false, Passing::Streaming, request.rest)?;
+    let k = upstreams.open(
+        request.stream,
+        request.route,
+        false,
+        Passing::Streaming,
+        request.rest,
+    )?;
     let Due::ToSend { number, text } = upstreams.take_body(3, b"hel", false, trailers)? else {
         return Err(Fail::from("nothing goes out"));
     };
@@ -339,10 +462,16 @@ fn assert_goes_nowhere(
 ) -> Result<(), Fail>
     requires { upstreams.old ≡ nothing }
 {
-    let Due::ToOpen(request) = upstreams.begin(3, 7, head, false, true)? else {
+    let Due::ToOpen(request) = upstreams.begin(3, 7, head, false, false, true)? else {
         return Err(Fail::from("it waits"));
     };
-    let k = upstreams.open(request.stream, false, Passing::Streaming, request.rest)?;
+    let k = upstreams.open(
+        request.stream,
+        request.route,
+        false,
+        Passing::Streaming,
+        request.rest,
+    )?;
     upstreams.close(k);
     assert!(rt; is_nothing(&upstreams.take_body(3, b"hel", false, &[])?));
     assert!(rt; is_nothing(&upstreams.take_body(3, b"lo", true, &[])?));

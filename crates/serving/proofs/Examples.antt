@@ -1,6 +1,6 @@
 -- A worked run, where requests are passed on whole: each of its moves is allowed and says what is so, by computation, and the clauses
 -- hold at its end.
-use Rattle.std.proofs.Common.{◌≡◌, ℕ, ◌+◌, ◌<◌, true, false, List, [], ◌∷◌, ◌++◌, length, refl, sym, ap, ◌∙◌, subst, inl, arith}
+use Rattle.std.proofs.Common.{◌≡◌, ℕ, ◌+◌, ◌<◌, true, false, List, [], ◌∷◌, length, refl, sym, inl, arith}
 use Rattle.std.specs.Prelude.{codes}
 use Rattle.std.specs.List.{list_any}
 use Rattle.model.specs.Tables.{total_size}
@@ -12,6 +12,7 @@ use Rattle.h1_writer.specs.Sending.{Sending, Continues, chunk_text, last_chunk}
 use Rattle.h1_writer.specs.Sending.Stage.{Whole, Chunking}
 use Rattle.h1_writer.proofs.Stages.{adds_chunk, ends}
 use Rattle.serving.specs.Told.{Told}
+use Rattle.serving.specs.Lines.Answer.{Pending}
 use Rattle.serving.specs.State.{State, state_of, tape_of}
 use Rattle.serving.specs.State.Due.{Nothing}
 use Rattle.serving.specs.Rule.{is_done, MayCome, IsServing, AreAllowed}
@@ -34,7 +35,7 @@ pub first_route : IsFirstMatch known.setup.routes (codes "a.example") (codes "/"
 first_route = record { route = record { authority = []; path = codes "/" }; found = refl; matches = (inl refl, inl (record { rest = []; is = refl })); none_before = λ earlier before. absurd (omega (arith, before)) }
 
 a1 : AreAllowed known.setup m1
-a1 = (((refl, record { open_yet = refl; may = inl refl }), record { open_yet = refl; may = calm _ _ refl refl refl }), record { open_yet = refl; may = inl refl })
+a1 = (((tt, record { open_yet = refl; may = inl refl }), record { open_yet = refl; may = calm _ _ refl refl refl }), record { open_yet = refl; may = inl refl })
 
 -- the head of the POST, and each piece of its body
 pub post_begun : Sending false (parts_of post) false (post_text []) [] [] Chunking
@@ -69,18 +70,18 @@ a4 : AreAllowed known.setup m4
 a4 = (a3, record { open_yet = refl; may = (calm _ _ refl refl refl, record { serving = serving_on _ _ (omega arith) refl refl; by_route = first_route; sending = get_sent; whole = refl }) })
 
 a5 : AreAllowed known.setup m5
-a5 = ((a4, record { open_yet = refl; may = record { stream = 3; text = get_text; stage = Whole; due = refl; next = refl } }), record { open_yet = refl; may = refl })
+a5 = ((a4, record { open_yet = refl; may = record { stream = 3; text = get_text; stage = Whole; due = refl; next = refl } }), record { open_yet = refl; may = inl refl })
 
 a6 : AreAllowed known.setup m6
 a6 = (a5, record { open_yet = refl; may = (calm _ _ refl refl refl, record { serving = serving_on _ _ (omega arith) refl refl; found = refl; gathered = (body_ends, refl) }) })
 
 a7 : AreAllowed known.setup m7
-a7 = ((a6, record { open_yet = refl; may = record { stream = 1; text = post_whole; stage = Whole; due = refl; next = refl } }), record { open_yet = refl; may = refl })
+a7 = ((a6, record { open_yet = refl; may = record { stream = 1; text = post_whole; stage = Whole; due = refl; next = refl } }), record { open_yet = refl; may = inl refl })
 
 a8 : AreAllowed known.setup m8
 a8 = (
   (a7, record { open_yet = refl; may = calm _ _ refl refl refl }),
-  record { open_yet = refl; may = record { nothing = refl; live = record { k = 1; stream = 3; whole = false }; found = refl; why = inl refl } },
+  record { open_yet = refl; may = record { nothing = refl; line = record { k = 1; route = 0; stream = 3; answer = Pending }; found = refl; why = inl refl } },
 )
 
 -- ---- they say what is so

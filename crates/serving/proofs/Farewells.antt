@@ -8,19 +8,20 @@ use Rattle.model.specs.Tapes.Entry.{Sent}
 use Rattle.model.specs.Decoding.{completed, begun, joined}
 use Rattle.model.specs.StreamStates.{most_streams}
 use Rattle.model.specs.Known.{Known}
-use Rattle.model.specs.Lifetimes.{opened, active, is_opened, is_over, is_active, ends_by, is_ended_by_client, is_ended_by_gateway, is_reset_by_client, is_reset_by_gateway}
+use Rattle.model.specs.Lifetimes.{opened, is_opened, is_over, is_active, ends_by, is_ended_by_client, is_ended_by_gateway, is_reset_by_client, is_reset_by_gateway}
 use Rattle.model.specs.Messages.{ends_with}
 use Rattle.model.specs.Causes.{Cause}
 use Rattle.model.specs.Courses.{items, cause, first_of_both}
 use Rattle.model.specs.ErrorClause.{is_calming, calls_for_end, must_end}
 use Rattle.model.proofs.ItemLaws.{items_stay}
 use Rattle.serving.specs.Told.{is_served}
-use Rattle.serving.specs.State.{Due, State, live_of}
-use Rattle.serving.specs.State.Due.{Nothing, ToOpen, ToSend}
+use Rattle.serving.specs.State.{Due, State}
+use Rattle.serving.specs.State.Due.{Nothing, ToOpen, ToUse, ToSend}
+use Rattle.h1_writer.specs.Sending.{Stage}
 use Rattle.serving.specs.Rule.{MaySend}
 use Rattle.serving.specs.Written.{IsWritten}
 use Rattle.model.specs.Http2.{HasHead}
-use Rattle.serving.proofs.Standing.{IsDue}
+use Rattle.serving.proofs.Standing.{IsStarting, IsDue}
 
 module _ (t : List Entry) (noted : Noted) (is : noted.frame.kind ≡ goaway_kind) where
   -- it ends no stream
@@ -79,19 +80,18 @@ served_same known t noted is stream =
     ∙ ap (λ (c : Option Cause). is_active stream t && is_none c) (cause_same known t noted stream)
 
 -- what is due behind a frame that may be sent can be done
-pub due_sent : (known : Known) (t : List Entry) (noted : Noted) (s u : State) → u.live ≡ s.live → MaySend s noted → IsDue known t s s.due → IsDue known (Sent noted ∷ t) u s.due
-due_sent known t noted s u same_live (inl nothing) due = subst (IsDue known (Sent noted ∷ t) u) (sym nothing) tt
-due_sent known t noted s u same_live (inr (is, mild)) due = by s.due due
+pub due_sent : (known : Known) (t : List Entry) (noted : Noted) (s : State) → MaySend s noted → IsDue known t s.live s.due → IsDue known (Sent noted ∷ t) s.live s.due
+due_sent known t noted s (inl nothing) due = subst (IsDue known (Sent noted ∷ t) s.live) (sym nothing) tt
+due_sent known t noted s (inr (is, mild)) due = by s.due due
   where
     same : (stream : ℕ) → items known stream (Sent noted ∷ t) ≡ items known stream t
     same stream = sym (items_stay known stream t (Sent noted) refl)
 
-    by : (d : Due) → IsDue known t s d → IsDue known (Sent noted ∷ t) u d
-    by Nothing it = tt
-    by (ToOpen stream route text stage) it = record {
+    starts : (stream route : ℕ) (text : List ℕ) (stage : Stage) (idle : Option ℕ) → IsStarting known t s.live stream route text stage idle → IsStarting known (Sent noted ∷ t) s.live stream route text stage idle
+    starts stream route text stage idle it = record {
       last = it.last;
       none_given = λ o given. it.none_given o (record { is_opened = given.is_opened; is_given = given.is_given });
-      written = subst (λ xs. IsWritten xs text stage) (sym (same stream)) it.written;
+      written = subst (λ xs. IsWritten known.setup.keep xs text stage) (sym (same stream)) it.written;
       head = it.head;
       has_head = subst (λ xs. HasHead xs it.head) (sym (same stream)) it.has_head;
       by_route = it.by_route;
@@ -101,5 +101,13 @@ due_sent known t noted s u same_live (inr (is, mild)) due = by s.due due
         goes_on = end_same t noted is known mild ∙ it.in_time.goes_on;
         whole = λ whole. ap (λ xs. list_any ends_with xs) (same stream) ∙ it.in_time.whole whole;
       };
+      bare = it.bare;
+      none_finished = it.none_finished;
+      least = it.least;
     }
-    by (ToSend k text) it = (it.0, ap (live_of k) same_live ∙ it.1, it.2)
+
+    by : (d : Due) → IsDue known t s.live d → IsDue known (Sent noted ∷ t) s.live d
+    by Nothing it = tt
+    by (ToOpen stream route text stage) it = starts stream route text stage None it
+    by (ToUse k stream text stage) it = (it.0, starts stream it.0 text stage (Some k) it.1)
+    by (ToSend k text) it = record { line = it.line; found = it.found; stream = it.stream; pending = it.pending; none_finished = it.none_finished }

@@ -123,12 +123,12 @@ room_whole (Some n) body e = let same : length body ≡ n = e in omega (arith, s
 
 -- ---- of a request that goes out
 
-module _ (items : List Item) (text : List ℕ) (stage : Stage) (w : IsWritten items text stage) (part : stage ≡ Whole → ⊥) where
+module _ (keep : Bool) (items : List Item) (text : List ℕ) (stage : Stage) (w : IsWritten keep items text stage) (part : stage ≡ Whole → ⊥) where
   -- octets may be pushed, and where they end the stream the body is as long as declared
   pub content_fits : (octets : List ℕ) (ends : Bool) → is_malformed_content (carried_by items false) octets ends ≡ false → MayPush stage (length octets) × (ends ≡ true → HasLength (parts_of w.head).length (concat w.pieces ++ octets))
   content_fits octets ends good =
       let rules = content_rules w.head w.ended w.more octets ends (subst (λ xs. is_malformed_content (carried_by xs false) octets ends ≡ false) w.is good) in (
-        room_to_push false (parts_of w.head) w.ended text w.pieces stage (length octets) (bare items text stage w part) part
+        room_to_push keep (parts_of w.head) w.ended text w.pieces stage (length octets) (bare keep items text stage w part) part
             (room_told (parts_of w.head).length w.pieces octets (ap (λ body. is_within (declared_length w.head) (length body + length octets)) w.body ∙ rules.0)),
         λ e. subst (λ body. HasLength (parts_of w.head).length (body ++ octets)) (sym w.body) (rules.1 e),
       )
@@ -137,13 +137,13 @@ module _ (items : List Item) (text : List ℕ) (stage : Stage) (w : IsWritten it
   pub trailers_fit : (fields : List Field) (ends : Bool) → is_malformed_block (carried_by items false) fields ends ≡ false → (ends ≡ true) × WellFormedTrailers fields × MayFinish stage
   trailers_fit fields ends good =
       let rules = trailers_rules w.head w.ended w.more fields ends (subst (λ xs. is_malformed_block (carried_by xs false) fields ends ≡ false) w.is good) in
-      (rules.0, rules.1, end_to_finish false (parts_of w.head) w.ended text w.pieces stage (bare items text stage w part) part (subst (HasLength (parts_of w.head).length) (sym w.body) rules.2))
+      (rules.0, rules.1, end_to_finish keep (parts_of w.head) w.ended text w.pieces stage (bare keep items text stage w part) part (subst (HasLength (parts_of w.head).length) (sym w.body) rules.2))
 
 -- ---- of a request that waits
 
-module _ (items : List Item) (text : List ℕ) (stage : Stage) (body : List ℕ) (w : IsAwaited items text stage body) where
+module _ (keep : Bool) (items : List Item) (text : List ℕ) (stage : Stage) (body : List ℕ) (w : IsAwaited keep items text stage body) where
   whole_fits : (octets : List ℕ) → HasLength (declared_length w.head) octets → MayPush stage (length octets)
-  whole_fits octets whole = room_to_push false (parts_of w.head) false text [] stage (length octets) w.sending w.part (room_whole (declared_length w.head) octets whole)
+  whole_fits octets whole = room_to_push keep (parts_of w.head) false text [] stage (length octets) w.sending w.part (room_whole (declared_length w.head) octets whole)
 
   -- octets that end the stream make the body as long as declared, and all of it may be pushed
   pub last_fits : (octets : List ℕ) → is_malformed_content (carried_by items false) octets true ≡ false → MayPush stage (length (body ++ octets)) × HasLength (parts_of w.head).length (body ++ octets)

@@ -9,7 +9,7 @@ use Rattle.model.specs.Octets.{begins_with}
 use Rattle.model.specs.Messages.{Field}
 use Rattle.model.specs.Tables.{field_size, total_size}
 use Rattle.model.specs.Http1.{values_of, without, via}
-use Rattle.model.specs.Http1Text.{line_text, lines_text, framing_of}
+use Rattle.model.specs.Http1Text.{line_text, lines_text, framing_of, closing}
 use Rattle.model.specs.Http2.{first_of, joined_by, is_empty_cookie, regular_fields, with_one_cookie, fields_of, method_of, path_of, authority_of, declared_length, WellFormedHead}
 use Rattle.model.specs.Causes.{are_large}
 use Rattle.request_rules.specs.Heads.{parts_of}
@@ -210,11 +210,15 @@ framing_short (Some n) ended fits =
     let few = decimal_short n (fits n refl) in
     omega (arith, line, few)
 
+-- the line that says that the connection isn't kept
+close_short : (keep : Bool) → length (lines_text (closing keep)) ≤ 19
+close_short true = omega arith
+close_short false = omega arith
+
 -- The text of a head whose fields aren't too large.
-pub head_short : (head : List Field) (ended : Bool) → WellFormedHead head → are_large head ≡ false → length (head_of false (parts_of head) ended) ≤ most_head
-head_short head ended well_formed small =
+pub head_short : (keep : Bool) (head : List Field) (ended : Bool) → WellFormedHead head → are_large head ≡ false → length (head_of keep (parts_of head) ended) ≤ most_head
+head_short keep head ended well_formed small =
     let framing = framing_of (declared_length head) ended in
-    let close : Field = record { name = codes "connection"; value = codes "close" } in
     let host : Field = record { name = codes "host"; value = authority_of head } in
     let size : total_size head ≤ 16384 = fits small in
     let parts = parts_fit head in
@@ -223,12 +227,13 @@ head_short head ended well_formed small =
     let authority = first_of_both (values_of (codes ":authority") head) (values_of (codes "host") head) in
     let fields = fields_short head in
     let frames = framing_short (declared_length head) ended (λ n is. declared_fits head n well_formed.length_holds is) in
-    let first = lines_more host (fields_of head ++ via ∷ framing ++ close ∷ []) in
-    let second = lines_both (fields_of head ++ via ∷ framing) (close ∷ []) in
+    let first = lines_more host (fields_of head ++ via ∷ framing ++ closing keep) in
+    let second = lines_both (fields_of head ++ via ∷ framing) (closing keep) in
     let third = lines_both (fields_of head) (via ∷ framing) in
     let fourth = lines_more via framing in
-    let text : length (head_of false (parts_of head) ended) ≡ length (method_of head) + length (path_of head) + 14 + length (lines_text (host ∷ fields_of head ++ via ∷ framing ++ close ∷ [])) = simp length-append (omega arith) in
-    omega (arith, size, parts, method, path, authority, fields, frames, first, second, third, fourth, text)
+    let text : length (head_of keep (parts_of head) ended) ≡ length (method_of head) + length (path_of head) + 14 + length (lines_text (host ∷ fields_of head ++ via ∷ framing ++ closing keep)) = simp length-append (omega arith) in
+    let last = close_short keep in
+    omega (arith, size, parts, method, path, authority, fields, frames, first, second, third, fourth, text, last)
   where
     fits : are_large head ≡ false → total_size head ≤ 16384
     fits e = ltb-false 16384 (total_size head) e

@@ -4,20 +4,21 @@ use Rattle.std.specs.Prelude.{Option, Some, None}
 use Rattle.std.proofs.lemmas.Bool.{eq-eqb, ne_eqb}
 use Rattle.std.proofs.lemmas.Bool.Decides.{eqb_tells}
 use Rattle.model.specs.Setup.Passing.{Whole as WholePassing, Streaming}
-use Rattle.model.specs.Openings.{last_stream}
+use Rattle.model.specs.Openings.{exchange_on}
 use Rattle.model.specs.Tapes.{Entry, is_closed}
 use Rattle.model.specs.Known.{Known}
 use Rattle.model.specs.Lifetimes.{active}
-use Rattle.h1_writer.specs.Sending.{held_back}
+use Rattle.h1_writer.specs.Sending.{Stage, held_back}
 use Rattle.serving.specs.Told.{is_served}
-use Rattle.serving.specs.State.{Way, Held, id_of, held_of, without, Live, live_of, Due, State, Turn, state_of, tape_of}
+use Rattle.serving.specs.Lines.{without, Line, line_of}
+use Rattle.serving.specs.State.{Way, Held, id_of, held_of, Due, State, Turn, state_of, tape_of}
 use Rattle.serving.specs.State.Way.{Waiting, Going, Dropped}
-use Rattle.serving.specs.State.Due.{Nothing, ToOpen, ToSend}
+use Rattle.serving.specs.State.Due.{Nothing, ToOpen, ToUse, ToSend}
 use Rattle.serving.specs.Rule.{AreAllowed}
 use Rattle.serving.specs.Meaning.{AreSo}
 use Rattle.serving.specs.Held.{held_by, held_requests, is_for, due_for, held_for, due_octets, held_of_all, held_octets, most_beside, AreApart, FitFrames}
-use Rattle.serving.proofs.Standing.{IsDue, IsOnWay, Stands}
-use Rattle.serving.proofs.Closing.{found_live, same_live}
+use Rattle.serving.proofs.Standing.{IsSending, IsDue, IsOnWay, Stands}
+use Rattle.serving.proofs.Closing.{found_exchange}
 use Rattle.serving.proofs.Clauses.{all_stand}
 use Rattle.serving.proofs.Served.{AllServed, held_served, held_apart, apart_without, DueServed, due_served, none_behind_close, is_among, no_more}
 use Rattle.serving.proofs.Room.{back_one, above, requests_none, requests_found, held_without, one_apart, served_among, waits_short, DueFits, due_fits, room_by_body, room_by_frame}
@@ -48,13 +49,13 @@ module _ (known : Known) (t : List Entry) (s : State) (h : Stands known t s) (al
       by (Some x) found = let same = requests_found stream s.held x apart found in let fits = found_fits stream x found in omega (arith, same, fits)
 
   -- of a stream that has a connection no more than an octet is
-  going_one : (k : ℕ) (l : Live) → live_of k s.live ≡ Some l → (stream : ℕ) → l.stream ≡ stream → held_requests stream s.held ≤ 1
+  going_one : (k : ℕ) (l : Line) → line_of k s.live ≡ Some l → (stream : ℕ) → l.stream ≡ stream → held_requests stream s.held ≤ 1
   going_one k l found stream same = by (held_of stream s.held) refl
     where
       way_one : (way : Way) → IsOnWay known t s stream way → held_by way ≤ 1
       way_one (Waiting route text stage body) w =
-          let it = found_live known t s h k l found in
-          absurd (w.none_given it.0 (record { is_opened = it.1; is_given = sym it.3.same ∙ ap (λ (x : Live). x.stream) (same_live known t s h k l found) ∙ same }))
+          let it = found_exchange known t s h k l found in
+          absurd (w.none_given (exchange_on k t) (record { is_opened = it.is_opened; is_given = it.is_given ∙ same }))
       way_one (Going j stage) w = back_one stage
       way_one Dropped w = omega arith
 
@@ -69,9 +70,8 @@ module _ (known : Known) (t : List Entry) (s : State) (h : Stands known t s) (al
       requests : held_requests stream s.held ≤ most
       requests = requests_fit stream
 
-      by : (d : Due) → s.due ≡ d → DueFits most s.held d → held_requests stream s.held + due_for stream s.live d ≤ most
-      by Nothing is fits = omega (arith, requests)
-      by (ToOpen other route text stage) is fits = elim (eqb_tells other stream) [
+      begun_room : (other : ℕ) (text : List ℕ) (stage : Stage) → (length text + 1 ≤ most) × (held_of other s.held ≡ None) → held_requests stream s.held + (if other == stream then length text + held_back stage else 0) ≤ most
+      begun_room other text stage fits = elim (eqb_tells other stream) [
         | inl same ↦ (
             let zero_held = requests_none stream s.held (subst (λ n. held_of n s.held ≡ None) same.1 fits.1) in
             let one = back_one stage in
@@ -79,9 +79,14 @@ module _ (known : Known) (t : List Entry) (s : State) (h : Stands known t s) (al
             subst (λ b. held_requests stream s.held + (if b then length text + held_back stage else 0) ≤ most) (sym same.0) (omega (arith, zero_held, one, room)))
         | inr apart_from ↦ subst (λ b. held_requests stream s.held + (if b then length text + held_back stage else 0) ≤ most) (sym apart_from.0) (omega (arith, requests))
       ]
-      by (ToSend k text) is fits = on (live_of k s.live) refl
+
+      by : (d : Due) → s.due ≡ d → DueFits most s.held d → held_requests stream s.held + due_for stream s.live d ≤ most
+      by Nothing is fits = omega (arith, requests)
+      by (ToOpen other route text stage) is fits = begun_room other text stage fits
+      by (ToUse k other text stage) is fits = begun_room other text stage fits
+      by (ToSend k text) is fits = on (line_of k s.live) refl
         where
-          on : (o : Option Live) → live_of k s.live ≡ o → held_requests stream s.held + (if is_for stream o then length text else 0) ≤ most
+          on : (o : Option Line) → line_of k s.live ≡ o → held_requests stream s.held + (if is_for stream o then length text else 0) ≤ most
           on None none = omega (arith, requests)
           on (Some l) found = elim (eqb_tells l.stream stream) [
             | inl same ↦ (let one = going_one k l found stream same.1 in subst (λ b. held_requests stream s.held + (if b then length text else 0) ≤ most) (sym same.0) (omega (arith, one, fits)))
@@ -143,17 +148,18 @@ module _ (known : Known) (t : List Entry) (s : State) (h : Stands known t s) (al
       by : (d : Due) → s.due ≡ d → DueFits most s.held d → DueServed known t s.live d → held_of_all s.held + due_octets d ≤ length (active t) * most
       by Nothing is fits served = let all = all_requests_fit in let few = times (length s.held) (length (active t)) active_all in omega (arith, all, few)
       by (ToOpen stream route text stage) is fits served = let one = back_one stage in let room = fits.0 in beside_none stream (length text + held_back stage) served fits.1 (omega (arith, one, room))
-      by (ToSend k text) is fits served = on (held_of there.0.stream s.held) refl
+      by (ToUse k stream text stage) is fits served = let one = back_one stage in let room = fits.0 in beside_none stream (length text + held_back stage) served fits.1 (omega (arith, one, room))
+      by (ToSend k text) is fits served = on (held_of there.line.stream s.held) refl
         where
-          there : (l : Live) × (live_of k s.live ≡ Some l) × (l.stream ≡ last_stream t)
-          there = subst (IsDue known t s) is h.due
+          there : IsSending t s.live k
+          there = subst (IsDue known t s.live) is h.due
 
-          on : (o : Option Held) → held_of there.0.stream s.held ≡ o → held_of_all s.held + length text ≤ length (active t) * most
-          on None none = beside_none there.0.stream (length text) (served there.0 there.1) none (omega (arith, fits))
+          on : (o : Option Held) → held_of there.line.stream s.held ≡ o → held_of_all s.held + length text ≤ length (active t) * most
+          on None none = beside_none there.line.stream (length text) (served there.line there.found) none (omega (arith, fits))
           on (Some x) found =
-              let one = going_one k there.0 there.1 there.0.stream refl in
-              let same = requests_found there.0.stream s.held x apart found in
-              beside_one there.0.stream (length text) x found (omega (arith, one, same)) fits
+              let one = going_one k there.line there.found there.line.stream refl in
+              let same = requests_found there.line.stream s.held x apart found in
+              beside_one there.line.stream (length text) x found (omega (arith, one, same)) fits
 
 -- where requests are passed on as they come nothing waits but an octet that is held back
 streamed_one : (known : Known) (t : List Entry) (s : State) → Stands known t s → AreApart s.held → known.setup.passing ≡ Streaming → (stream : ℕ) → held_requests stream s.held ≤ 1
@@ -213,9 +219,10 @@ module _ (known : Known) (turns : List Turn) (all : AreAllowed known.setup turns
       not_due : (d : Due) → DueServed known (tape_of turns) kept_now.live d → due_for stream kept_now.live d ≡ 0
       not_due Nothing served = refl
       not_due (ToOpen n route text stage) served = ap (λ b. if b then length text + held_back stage else 0) (other n served)
-      not_due (ToSend k text) served = on (live_of k kept_now.live) refl
+      not_due (ToUse k n text stage) served = ap (λ b. if b then length text + held_back stage else 0) (other n served)
+      not_due (ToSend k text) served = on (line_of k kept_now.live) refl
         where
-          on : (o : Option Live) → live_of k kept_now.live ≡ o → (if is_for stream o then length text else 0) ≡ 0
+          on : (o : Option Line) → line_of k kept_now.live ≡ o → (if is_for stream o then length text else 0) ≡ 0
           on None none = refl
           on (Some l) found = ap (λ b. if b then length text else 0) (other l.stream (served l found))
 

@@ -27,7 +27,7 @@ module _ (known : Known) (turns : List Turn) (at : Rests (told_of turns) (state_
   one_more behind (Drops noted item) may = (here may.0, before)
   one_more behind (Breaks breach) may = (here may, before)
   one_more behind (Notes event) may = (here may.0, before)
-  one_more behind (Hears event whole) may = (here may.0, before)
+  one_more behind (Hears event heard) may = (here may.0, before)
   one_more behind (Fails k) may = (here may.0, before)
   one_more behind (Sends noted) may = before
   one_more behind (Acts act) may = before

@@ -49,23 +49,23 @@ none_taken : (declared : Option ℕ) → taken declared [] ≡ 0
 none_taken (Some declared) = refl
 none_taken None = refl
 
-module _ (parts : HeadParts) (ended : Bool) (text : List ℕ) (pieces : List (List ℕ)) (trailers : List Field) where
+module _ (keep : Bool) (parts : HeadParts) (ended : Bool) (text : List ℕ) (pieces : List (List ℕ)) (trailers : List Field) where
   -- a text that isn't whole, with the octet that is held back, is as long as its head and what its pieces take
-  at_least : (stage : Stage) → Sending false parts ended text pieces trailers stage → (stage ≡ Whole → ⊥) → length (head_of false parts ended) + taken parts.length pieces ≡ length text + held_back stage
+  at_least : (stage : Stage) → Sending keep parts ended text pieces trailers stage → (stage ≡ Whole → ⊥) → length (head_of keep parts ended) + taken parts.length pieces ≡ length text + held_back stage
   at_least Whole s part = absurd (part refl)
   at_least (Counting left) s part =
-      let is : length text ≡ length (head_of false parts false) + length (concat pieces) = ap length s.is ∙ length-append (head_of false parts false) (concat pieces) in
-      ap (λ b. length (head_of false parts b) + taken parts.length pieces) s.not_ended ∙ ap (λ d. length (head_of false parts false) + taken d pieces) s.declared ∙ omega (arith, is)
+      let is : length text ≡ length (head_of keep parts false) + length (concat pieces) = ap length s.is ∙ length-append (head_of keep parts false) (concat pieces) in
+      ap (λ b. length (head_of keep parts b) + taken parts.length pieces) s.not_ended ∙ ap (λ d. length (head_of keep parts false) + taken d pieces) s.declared ∙ omega (arith, is)
   at_least (Holding octet) s part =
-      let is : length text + 1 ≡ length (head_of false parts false) + length (concat pieces) = sym (length-append text (octet ∷ [])) ∙ ap length s.is ∙ length-append (head_of false parts false) (concat pieces) in
-      ap (λ b. length (head_of false parts b) + taken parts.length pieces) s.not_ended ∙ ap (λ d. length (head_of false parts false) + taken d pieces) s.declared ∙ omega (arith, is)
+      let is : length text + 1 ≡ length (head_of keep parts false) + length (concat pieces) = sym (length-append text (octet ∷ [])) ∙ ap length s.is ∙ length-append (head_of keep parts false) (concat pieces) in
+      ap (λ b. length (head_of keep parts b) + taken parts.length pieces) s.not_ended ∙ ap (λ d. length (head_of keep parts false) + taken d pieces) s.declared ∙ omega (arith, is)
   at_least Chunking s part =
-      let is : length text ≡ length (head_of false parts false) + length (flat_map chunk_text pieces) = ap length s.is ∙ length-append (head_of false parts false) (flat_map chunk_text pieces) in
-      ap (λ b. length (head_of false parts b) + taken parts.length pieces) s.not_ended ∙ ap (λ d. length (head_of false parts false) + taken d pieces) s.undeclared ∙ omega (arith, is)
+      let is : length text ≡ length (head_of keep parts false) + length (flat_map chunk_text pieces) = ap length s.is ∙ length-append (head_of keep parts false) (flat_map chunk_text pieces) in
+      ap (λ b. length (head_of keep parts b) + taken parts.length pieces) s.not_ended ∙ ap (λ d. length (head_of keep parts false) + taken d pieces) s.undeclared ∙ omega (arith, is)
 
   -- a last chunk with trailers comes behind that at most
-  at_most : (stage : Stage) → Sending false parts ended text pieces trailers stage → length text ≤ length (head_of false parts ended) + taken parts.length pieces + 5 + length (lines_text trailers)
-  at_most Whole s = let size = ap length s.is ∙ length-append (head_of false parts ended) (content_of parts.length ended pieces trailers) in let rest = whole_length parts.length ended pieces in omega (arith, size, rest)
+  at_most : (stage : Stage) → Sending keep parts ended text pieces trailers stage → length text ≤ length (head_of keep parts ended) + taken parts.length pieces + 5 + length (lines_text trailers)
+  at_most Whole s = let size = ap length s.is ∙ length-append (head_of keep parts ended) (content_of parts.length ended pieces trailers) in let rest = whole_length parts.length ended pieces in omega (arith, size, rest)
     where
       whole_length : (declared : Option ℕ) (ends : Bool) (all : List (List ℕ)) → length (content_of declared ends all trailers) ≤ taken declared all + 5 + length (lines_text trailers)
       whole_length (Some declared) ends all = omega arith
@@ -78,23 +78,23 @@ module _ (parts : HeadParts) (ended : Bool) (text : List ℕ) (pieces : List (Li
 -- ---- what is written
 
 -- the text of a head that waits, with an octet that is held back
-pub head_waits : (parts : HeadParts) (ended : Bool) (text : List ℕ) (stage : Stage) → Sending false parts ended text [] [] stage → (stage ≡ Whole → ⊥) → length text + held_back stage ≡ length (head_of false parts ended)
-head_waits parts ended text stage s part = let size = at_least parts ended text [] [] stage s part in let none = none_taken parts.length in omega (arith, size, none)
+pub head_waits : (keep : Bool) (parts : HeadParts) (ended : Bool) (text : List ℕ) (stage : Stage) → Sending keep parts ended text [] [] stage → (stage ≡ Whole → ⊥) → length text + held_back stage ≡ length (head_of keep parts ended)
+head_waits keep parts ended text stage s part = let size = at_least keep parts ended text [] [] stage s part in let none = none_taken parts.length in omega (arith, size, none)
 
 -- a text with the body in one piece
-pub one_piece : (parts : HeadParts) (ended : Bool) (text octets : List ℕ) (trailers : List Field) (stage : Stage) → length octets < 2 ^ 64 → Sending false parts ended text ([] ++ piece_of octets) trailers stage → length text ≤ length (head_of false parts ended) + length octets + 25 + length (lines_text trailers)
-one_piece parts ended text octets trailers stage fits s =
-    let size = at_most parts ended text ([] ++ piece_of octets) trailers stage s in
+pub one_piece : (keep : Bool) (parts : HeadParts) (ended : Bool) (text octets : List ℕ) (trailers : List Field) (stage : Stage) → length octets < 2 ^ 64 → Sending keep parts ended text ([] ++ piece_of octets) trailers stage → length text ≤ length (head_of keep parts ended) + length octets + 25 + length (lines_text trailers)
+one_piece keep parts ended text octets trailers stage fits s =
+    let size = at_most keep parts ended text ([] ++ piece_of octets) trailers stage s in
     let more = taken_more parts.length [] octets fits in
     let none = none_taken parts.length in
     omega (arith, size, more, none)
 
 -- what is written for octets more
-pub written_length : (parts : HeadParts) (ended : Bool) (text written octets : List ℕ) (pieces : List (List ℕ)) (trailers : List Field) (old new : Stage) → length octets < 2 ^ 64 → Sending false parts ended text pieces [] old → (old ≡ Whole → ⊥)
-    → Sending false parts ended (text ++ written) (pieces ++ piece_of octets) trailers new → length written ≤ length octets + 25 + length (lines_text trailers) + held_back old
-written_length parts ended text written octets pieces trailers old new fits before part behind =
-    let least = at_least parts ended text pieces [] old before part in
-    let most = at_most parts ended (text ++ written) (pieces ++ piece_of octets) trailers new behind in
+pub written_length : (keep : Bool) (parts : HeadParts) (ended : Bool) (text written octets : List ℕ) (pieces : List (List ℕ)) (trailers : List Field) (old new : Stage) → length octets < 2 ^ 64 → Sending keep parts ended text pieces [] old → (old ≡ Whole → ⊥)
+    → Sending keep parts ended (text ++ written) (pieces ++ piece_of octets) trailers new → length written ≤ length octets + 25 + length (lines_text trailers) + held_back old
+written_length keep parts ended text written octets pieces trailers old new fits before part behind =
+    let least = at_least keep parts ended text pieces [] old before part in
+    let most = at_most keep parts ended (text ++ written) (pieces ++ piece_of octets) trailers new behind in
     let more = taken_more parts.length pieces octets fits in
     let both = length-append text written in
     omega (arith, least, most, more, both)

@@ -13,6 +13,9 @@ pub mod Pooling
 pub mod Reusing
 pub mod Losing
 pub mod Leaving
+pub mod Frozen
+pub mod Numbers
+pub mod Bare
 pub mod Standing
 pub mod Streamed
 pub mod Passing
@@ -20,11 +23,17 @@ pub mod Farewells
 pub mod Framing
 pub mod Closing
 pub mod Hearing
+pub mod Starting
 pub mod Opening
+pub mod Using
+pub mod Going
 pub mod Reading
+pub mod Together
 pub mod Clauses
 pub mod InTurn
 pub mod Connections
+pub mod Ending
+pub mod Idling
 pub mod Served
 pub mod Room
 pub mod Holding
@@ -35,5 +44,6 @@ pub mod Telling
 pub mod RunMoves
 pub mod Examples
 mod StreamedExample
+mod KeptExample
 mod Refusals
 pub mod Trailing

@@ -1,5 +1,5 @@
 -- A connection is opened, closed, or fails: what is kept stays so; and one that is closed is done with.
-use Rattle.std.proofs.Common.{◌≡◌, ℕ, suc, ◌≤◌, ◌<◌, ◌+◌, Bool, true, false, ◌&&◌, ◌||◌, ◌==◌, List, [], ◌∷◌, ◌++◌, length, refl, sym, ap, ◌∙◌, subst, inl, inr, arith, if◌then◌else◌}
+use Rattle.std.proofs.Common.{◌≡◌, ℕ, suc, ◌≤◌, Bool, true, false, ◌||◌, ◌==◌, List, [], ◌∷◌, length, refl, sym, ap, ◌∙◌, subst, inl, inr, arith, if◌then◌else◌}
 use Rattle.std.specs.Prelude.{Some, ◌⊎◌}
 use Rattle.std.specs.List.{list_any}
 use Rattle.std.proofs.lemmas.Bool.{eq-eqb, ne_eqb, cases_Bool, or_parts}
@@ -12,8 +12,10 @@ use Rattle.model.specs.Openings.{Opened, exchanges, exchange_on, route_of, given
 use Rattle.model.specs.Known.{Known}
 use Rattle.model.specs.ErrorClause.{must_end}
 use Rattle.model.specs.Idle.{IsAllHeard, MayBeKept, IsIdle, AreIdle, AreDistinct, IsOneTooMany}
-use Rattle.serving.specs.Pool.{Answer, Line, line_of, is_idle, is_finished, idle_ones, lines_opened, lines_without, Answers, IsSo, Keeps}
-use Rattle.serving.specs.Pool.Answer.{Pending, Idle, Done}
+use Rattle.serving.specs.Lines.{Answer, Line, k_of, line_of, is_idle, is_finished, idle_ones, lines_opened, lines_without}
+use Rattle.serving.specs.Pool.{Answers, IsSo, Keeps}
+use Rattle.serving.specs.Lines.Answer.{Pending, Idle, Done}
+use Rattle.serving.proofs.Lists.{find_other, found_without}
 use Rattle.serving.proofs.Pool.{IsOne, none_finished, idle_heard}
 use Rattle.serving.proofs.Pooling.{Leaves, idle_there, so_there, numbers}
 use Rattle.serving.proofs.Reusing.{none_heard, opens_leave, closes_leave}
@@ -90,28 +92,6 @@ without_distinct k (l ∷ ls) d = by (l.k == k) (without_distinct k ls d.1)
     by true more = more
     by false more = (without_out k l.k ls d.0, more)
 
-without_found : (k n : ℕ) (ls : List Line) (l : Line) → line_of n (lines_without k ls) ≡ Some l → (n ≡ k → ⊥) × (line_of n ls ≡ Some l)
-without_found k n [] l e = cc
-without_found k n (x ∷ xs) l e = elim (eqb_tells x.k k) [
-  | inl same ↦ (let more = without_found k n xs l (sym (ap (λ b. line_of n (if b then lines_without k xs else x ∷ lines_without k xs)) same.0) ∙ e) in
-      (more.0, ap (λ b. if b then Some x else line_of n xs) (ne_eqb x.k n (λ at. more.0 (sym at ∙ same.1))) ∙ more.1))
-  | inr apart ↦ (let here : line_of n (x ∷ lines_without k xs) ≡ Some l = sym (ap (λ b. line_of n (if b then lines_without k xs else x ∷ lines_without k xs)) apart.0) ∙ e in
-      elim (eqb_tells x.k n) [
-        | inl at ↦ (λ s. apart.1 (at.1 ∙ s), ap (λ b. if b then Some x else line_of n xs) at.0 ∙ (sym (ap (λ b. if b then Some x else line_of n (lines_without k xs)) at.0) ∙ here))
-        | inr other ↦ (let more = without_found k n xs l (sym (ap (λ b. if b then Some x else line_of n (lines_without k xs)) other.0) ∙ here) in (more.0, ap (λ b. if b then Some x else line_of n xs) other.0 ∙ more.1))
-      ])
-]
-
-without_finds : (k n : ℕ) (ls : List Line) (l : Line) → (n ≡ k → ⊥) → line_of n ls ≡ Some l → line_of n (lines_without k ls) ≡ Some l
-without_finds k n [] l apart e = cc
-without_finds k n (x ∷ xs) l apart e = elim (eqb_tells x.k k) [
-  | inl same ↦ ap (λ b. line_of n (if b then lines_without k xs else x ∷ lines_without k xs)) same.0 ∙ without_finds k n xs l apart (sym (ap (λ b. if b then Some x else line_of n xs) (ne_eqb x.k n (λ at. apart (sym at ∙ same.1)))) ∙ e)
-  | inr differs ↦ ap (λ b. line_of n (if b then lines_without k xs else x ∷ lines_without k xs)) differs.0 ∙ elim (eqb_tells x.k n) [
-    | inl at ↦ ap (λ b. if b then Some x else line_of n (lines_without k xs)) at.0 ∙ (sym (ap (λ b. if b then Some x else line_of n xs) at.0) ∙ e)
-    | inr other ↦ ap (λ b. if b then Some x else line_of n (lines_without k xs)) other.0 ∙ without_finds k n xs l apart (sym (ap (λ b. if b then Some x else line_of n xs) other.0) ∙ e)
-  ]
-]
-
 without_few : (k : ℕ) (ls : List Line) → length (idle_ones (lines_without k ls)) ≤ length (idle_ones ls)
 without_few k [] = omega arith
 without_few k (l ∷ ls) = by (l.k == k) (is_idle l.answer) (without_few k ls)
@@ -133,8 +113,8 @@ module _ (known : Known) (t : List Entry) (ls : List Line) (h : Keeps known t ls
 
   pub keeps_without : Keeps known (e ∷ t) (lines_without k ls)
   keeps_without = record {
-    are_so = λ n l found. (let was = without_found k n ls l found in so_there known t e n (leaves n was.0) l (crowd n was.0 l was.1) ends (h.are_so n l was.1));
-    all = λ n on. (let apart = apart_of n on in let was = h.all n (sym (leaves n apart).opened ∙ on) in (was.0, without_finds k n ls was.0 apart was.1));
+    are_so = λ n l found. (let was = found_without k_of k n ls l found in so_there known t e n (leaves n was.0) l (crowd n was.0 l was.1) ends (h.are_so n l was.1));
+    all = λ n on. (let apart = apart_of n on in let was = h.all n (sym (leaves n apart).opened ∙ on) in (was.0, find_other k_of k n ls (λ e. apart (sym e)) ∙ was.1));
     distinct = without_distinct k ls h.distinct;
     few = (let less = without_few k ls in let few = h.few in omega (arith, less, few));
   }

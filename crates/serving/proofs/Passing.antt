@@ -1,63 +1,38 @@
--- Entries with which what is due stays, nothing is opened, and no stream's items change.
-use Rattle.std.proofs.Common.{◌≡◌, ℕ, ◌<◌, Bool, true, false, List, [], ◌∷◌, ◌++◌, refl, sym, ap, ◌∙◌, subst, inl, inr, if◌then◌else◌}
+-- Entries with which what is due stays, no exchange begins, and no stream's items change.
+use Rattle.std.proofs.Common.{◌≡◌, ℕ, true, false, List, [], ◌∷◌, ◌++◌, refl, sym, ap, ◌∙◌, subst, inl, inr, if◌then◌else◌}
 use Rattle.std.specs.Prelude.{Some, None}
 use Rattle.std.proofs.lemmas.Bool.{ne_eqb, cases_Bool}
 use Rattle.std.proofs.lemmas.Bool.Decides.{eqb_tells}
 use Rattle.model.specs.Http2.{H2Request}
-use Rattle.model.specs.Logs.{Event}
-use Rattle.model.specs.Logs.Event.{Client, ClientEnd, ClientTook, Up, UpEnd, UpFailed, UpTook}
-use Rattle.model.specs.Tapes.{Noted, Entry, sent_up, is_closed}
-use Rattle.model.specs.Tapes.Entry.{Came, Happened}
-use Rattle.model.specs.Openings.{Opened, opens, GoToOpen}
+use Rattle.model.specs.Tapes.{Noted, Entry, is_closed, came}
+use Rattle.model.specs.Tapes.Entry.{Came}
+use Rattle.model.specs.Openings.{Opened, opens, exchanges, exchange_on, given, sent_for, GoToOpen}
 use Rattle.model.specs.Admission.{is_open}
 use Rattle.model.specs.Available.{IsIn}
 use Rattle.model.specs.Known.{Known}
-use Rattle.model.specs.Courses.{items, upstream_of}
+use Rattle.model.specs.Courses.{items}
 use Rattle.model.specs.ErrorClause.{must_end}
+use Rattle.model.specs.Offers.{IsGiven}
 use Rattle.model.specs.RequestClause.{BeginInTime}
-use Rattle.model.proofs.ExchangeLaws.{none_kept}
-use Rattle.model.specs.ProgressClause.{Reason}
+use Rattle.h1_writer.specs.Sending.{Stage}
 use Rattle.serving.specs.Written.{IsWritten}
-use Rattle.serving.specs.State.{Held, held_of, live_of, State}
+use Rattle.serving.specs.Lines.{Line, line_of}
+use Rattle.serving.specs.Pool.{Keeps}
+use Rattle.serving.specs.State.{Way, Held, held_of, Due, State}
+use Rattle.serving.specs.State.Way.{Going}
 use Rattle.serving.specs.State.Due.{Nothing}
-use Rattle.serving.specs.Rule.{IsKept}
-use Rattle.serving.specs.Meaning.{Verdict}
 use Rattle.model.proofs.ItemLaws.{items_stay}
-use Rattle.model.specs.ProgressClause.{had_closed}
-use Rattle.serving.proofs.Reasons.{IsOf, heard_same, ended_same, reason_stays, all_heard_back, all_heard_there}
-use Rattle.serving.proofs.Standing.{IsSentWhole, IsSentInPart, text_of, owed, Lives, IsSent, Given, IsDueFor, Fares, IsDue, IsOnWay, Closes, IsFresh, Stands, Steps, unread_same, some_items, had_closed_in, cut_stays}
-
--- ---- the connections that are kept
-
--- a reason stays, whatever comes but an answer of the connection
-pub reason_on : (known : Known) (t : List Entry) (e : Entry) (s : State) (o : Opened) → Given known t s o → (IsOf o.k e → ⊥) → Reason known t o → Reason known (e ∷ t) o
-reason_on known t e s o g other = reason_stays known t e o g.started (some_items _ g.head g.has_head) other
-
--- so does what was heard: a whole response or none
-pub verdict_on : (known : Known) (t : List Entry) (e : Entry) (s : State) (o : Opened) (whole : Bool) → Given known t s o → (IsOf o.k e → ⊥) → Verdict known t o whole → Verdict known (e ∷ t) o whole
-verdict_on known t e s o true g other v = all_heard_there known t e o (some_items _ g.head g.has_head) other v
-verdict_on known t e s o false g other v = λ heard. v (all_heard_back known t e o (some_items _ g.head g.has_head) other heard)
-
--- a connection is kept as it is, with an entry that is none of its own
-pub lives_found : (known : Known) (t : List Entry) (e : Entry) (s u : State) (o : Opened) → Given known t s o → (IsOf o.k e → ⊥) → is_open o.k (e ∷ t) ≡ is_open o.k t → live_of o.k u.live ≡ live_of o.k s.live → Lives known t s o → Lives known (e ∷ t) u o
-lives_found known t e s u o g other same_open is (inr gone) = inr (record { missing = is ∙ gone.missing; shut = same_open ∙ gone.shut })
-lives_found known t e s u o g other same_open is (inl l) = inl (record { live = l.live; found = is ∙ l.found; same = l.same; opened = same_open ∙ l.opened; verdict = verdict_on known t e s o l.live.whole g other l.verdict })
-
--- an event of another connection leaves this one open or not
-pub open_same : (t : List Entry) (event : Event) (k : ℕ) → (k ≡ upstream_of event → ⊥) → is_open k (Happened event ∷ t) ≡ is_open k t
-open_same t (Client piece) k other = refl
-open_same t ClientEnd k other = refl
-open_same t (ClientTook count) k other = refl
-open_same t (Up j piece) k other = refl
-open_same t (UpEnd j) k other = refl
-open_same t (UpFailed j) k other = ap (λ b. if b then false else is_open k t) (ne_eqb k j other)
-open_same t (UpTook j count) k other = refl
+use Rattle.serving.proofs.Pooling.{Leaves}
+use Rattle.serving.proofs.Leaving.{IsLetGo, LetGo, let_go_there}
+use Rattle.serving.proofs.Standing.{IsSentWhole, IsSentInPart, owed, text_of, IsSent, IsDueFor, Fares, IsDue, IsFor, IsOnWay, Stands, Steps, unread_same, some_items, had_closed_in, cut_stays, way_stays}
+use Rattle.model.specs.Streams.{frame_items}
+use Rattle.model.specs.Decoding.{completed}
 
 -- ---- items
 
 -- a frame leaves the items of other streams
 pub items_beside : (known : Known) (t : List Entry) (noted : Noted) (stream : ℕ) → (noted.frame.id ≡ stream → ⊥) → items known stream (Came noted ∷ t) ≡ items known stream t
-items_beside known t noted stream apart = sym (items_stay known stream t (Came noted) (ap (λ b. if b then Rattle.model.specs.Streams.frame_items (Rattle.model.specs.Decoding.completed (Rattle.model.specs.Tapes.came t) noted.frame) noted else []) (ne_eqb noted.frame.id stream apart)))
+items_beside known t noted stream apart = sym (items_stay known stream t (Came noted) (ap (λ b. if b then frame_items (completed (came t) noted.frame) noted else []) (ne_eqb noted.frame.id stream apart)))
 
 -- and all items, where it leaves those of its own
 pub items_where : (known : Known) (t : List Entry) (noted : Noted) → items known noted.frame.id (Came noted ∷ t) ≡ items known noted.frame.id t → (stream : ℕ) → items known stream (Came noted ∷ t) ≡ items known stream t
@@ -66,41 +41,33 @@ items_where known t noted same stream = elim (eqb_tells noted.frame.id stream) [
   | inr x ↦ items_beside known t noted stream x.1
 ]
 
--- ---- entries that pass
+-- something came of the stream of each connection that has an exchange
+pub begun_on : (known : Known) (t : List Entry) (s : State) → Stands known t s → (k : ℕ) → IsIn (exchange_on k t) (exchanges t) → items known (given k (exchanges t)) t ≡ [] → ⊥
+begun_on known t s h k there = let g = h.given (exchange_on k t) there in some_items (items known (given k (exchanges t)) t) g.head g.has_head
 
--- What such an entry leaves as it is.
-pub record IsPassing (known : Known) (t : List Entry) (e : Entry) (s u : State) : Type 0 where
-  pub same_due : u.due ≡ s.due
-  pub due : IsDue known (e ∷ t) u u.due
-  pub same_opens : opens (e ∷ t) ≡ opens t
-  pub same_sent : (k : ℕ) → sent_up k (e ∷ t) ≡ sent_up k t
-  pub same_items : (stream : ℕ) → items known stream (e ∷ t) ≡ items known stream t
-  pub still_shut : (k : ℕ) → is_open k t ≡ false → is_open k (e ∷ t) ≡ false
-  pub count : u.count ≡ s.count
-  pub lives : (o : Opened) → IsIn o (opens t) → Given known t s o → Lives known (e ∷ t) u o
-  pub gone : (o : Opened) → IsIn o (opens t) → Given known t s o → live_of o.k s.live ≡ None → (live_of o.k u.live ≡ None) × (Reason known t o → Reason known (e ∷ t) o)
-  pub back : (k : ℕ) → IsKept u k → IsKept s k
-  pub not_fresh : (k : ℕ) → s.count < k → IsOf k e → ⊥
-  pub held : (stream : ℕ) (h : Held) → held_of stream u.held ≡ Some h → IsOnWay known (e ∷ t) u stream h.way
-  pub goes : GoToOpen t → GoToOpen (e ∷ t)
-  pub in_time : BeginInTime known t → BeginInTime known (e ∷ t)
-  pub ends : must_end known t ≡ true → must_end known (e ∷ t) ≡ true
-  pub closes : Closes known (e ∷ t) u t → Closes known (e ∷ t) u (e ∷ t)
-  pub shut : is_closed (e ∷ t) ≡ true → u.live ≡ []
+-- connections that were closed stay let go, where an entry leaves them
+pub let_go_left : (known : Known) (t : List Entry) (e : Entry) (s : State) → Stands known t s → (must_end known t ≡ true → must_end known (e ∷ t) ≡ true) → ((k : ℕ) → is_open k t ≡ false → IsIn (exchange_on k t) (exchanges t) → Leaves known t e k) → (k : ℕ) (earlier : List Entry) → IsLetGo known t k earlier → IsLetGo known (e ∷ t) k earlier
+let_go_left known t e s h ends leaves k earlier g = let_go_there known t e k earlier (leaves k g.shut g.there) (h.given (exchange_on k t) g.there).started ends g
 
--- what a connection was sent, where its stream's items and what is due stay
-pub sent_same : (known : Known) (t : List Entry) (e : Entry) (o : Opened) (text : List ℕ) → known.setup.keep ≡ false → BeginInTime known t → IsIn o (opens t) → items known o.stream (e ∷ t) ≡ items known o.stream t → (is_open o.k t ≡ false → is_open o.k (e ∷ t) ≡ false) → IsSent known t text o → IsSent known (e ∷ t) text o
-sent_same known t e o text off in_time i same shut g = record {
+-- ---- what stays
+
+-- where nothing is due, nothing is owed
+pub none_owed : (o : Opened) (t : List Entry) (due : Due) → due ≡ Nothing → owed o t due ≡ []
+none_owed o t due nothing = ap (owed o t) nothing
+
+-- what an exchange was sent, where its stream's items and what is due stay
+pub sent_same : (known : Known) (t : List Entry) (e : Entry) (o : Opened) (text : List ℕ) → IsIn o (exchanges t) → items known o.stream (e ∷ t) ≡ items known o.stream t → (is_open o.k t ≡ false → is_open o.k (e ∷ t) ≡ false) → IsSent known t text o → IsSent known (e ∷ t) text o
+sent_same known t e o text i same shut g = record {
   reads = elim g.reads [
-    | inl whole ↦ inl (subst (IsSentWhole text) (sym same) whole)
+    | inl whole ↦ inl (subst (IsSentWhole known.setup.keep text) (sym same) whole)
     | inr p ↦ inr (record {
-      part = subst (IsSentInPart text) (sym same) p.part;
+      part = subst (IsSentInPart known.setup.keep text) (sym same) p.part;
       cut = λ request means.
           let was = p.cut request (subst (λ xs. H2Request xs request) same means) in
-          (cut_stays t e o.stream was.0 (subst (λ (os : List Opened). had_closed o.stream os t ≡ true) (sym (none_kept known t off in_time)) (had_closed_in o.stream (opens t) t o i refl was.1)), shut was.1);
+          (cut_stays t e o.stream was.0 (had_closed_in o.stream (exchanges t) t o i refl was.1), shut was.1);
     })
   ];
-  writes = λ opened. let w = g.writes (before opened) in (w.0, subst (λ xs. IsWritten xs text w.0) (sym same) w.1);
+  writes = λ opened. let w = g.writes (before opened) in (w.0, subst (λ xs. IsWritten known.setup.keep xs text w.0) (sym same) w.1);
 }
   where
     before : is_open o.k (e ∷ t) ≡ true → is_open o.k t ≡ true
@@ -109,40 +76,70 @@ sent_same known t e o text off in_time i same shut g = record {
       | inr was ↦ absurd (let clash : true ≡ false = sym opened ∙ shut was in cc)
     ]
 
+-- an exchange of a stream stays one, and there was no other
+pub given_there : (t : List Entry) (e : Entry) (stream : ℕ) (o : Opened) → exchanges (e ∷ t) ≡ exchanges t → IsGiven t stream o → IsGiven (e ∷ t) stream o
+given_there t e stream o same g = record { is_opened = subst (IsIn o) (sym same) g.is_opened; is_given = g.is_given }
+
+pub given_back : (t : List Entry) (e : Entry) (stream : ℕ) (o : Opened) → exchanges (e ∷ t) ≡ exchanges t → IsGiven (e ∷ t) stream o → IsGiven t stream o
+given_back t e stream o same g = record { is_opened = subst (IsIn o) same g.is_opened; is_given = g.is_given }
+
+-- so a request stays on its way
+pub way_same : (known : Known) (t : List Entry) (e : Entry) (s u : State) (stream : ℕ) (way : Way) → items known stream (e ∷ t) ≡ items known stream t → exchanges (e ∷ t) ≡ exchanges t → ((o : Opened) → IsGiven t stream o → text_of o (e ∷ t) u.due ≡ text_of o t s.due)
+    → ((k : ℕ) (stage : Stage) → way ≡ Going k stage → IsFor s.live k stream → IsFor u.live k stream) → ((k : ℕ) → line_of k s.live ≡ None → line_of k u.live ≡ None) → IsOnWay known t s stream way → IsOnWay known (e ∷ t) u stream way
+way_same known t e s u stream way same_items same same_text keeps loses w =
+    way_stays known t e s u stream way same_items (λ o g. given_there t e stream o same g) (λ o g. given_back t e stream o same g) same_text keeps (λ o g. loses o.k) w
+
 -- a stream fares as before, where its items stay
-pub fares_same : (known : Known) (t : List Entry) (e : Entry) (s u : State) (stream : ℕ) → (IsDueFor s.due stream → IsDueFor u.due stream) → opens (e ∷ t) ≡ opens t → items known stream (e ∷ t) ≡ items known stream t → Fares known t s stream → Fares known (e ∷ t) u stream
-fares_same known t e s u stream still opens_same same (inl none) = inl (unread_same known t e stream same none)
-fares_same known t e s u stream still opens_same same (inr (inl due)) = inr (inl (still due))
-fares_same known t e s u stream still opens_same same (inr (inr g)) = inr (inr (g.0, record { is_opened = subst (IsIn g.0) (sym opens_same) g.1.is_opened; is_given = g.1.is_given }))
-
--- a connection that is not opened yet stays so
-pub fresh_same : (t : List Entry) (e : Entry) (k : ℕ) → sent_up k (e ∷ t) ≡ sent_up k t → (IsOf k e → ⊥) → (is_open k t ≡ false → is_open k (e ∷ t) ≡ false) → IsFresh t k → IsFresh (e ∷ t) k
-fresh_same t e k same other shut f = record { unsent = same ∙ f.unsent; unheard = λ o at. heard_same t e o (λ is. other (subst (λ n. IsOf n e) at is)) ∙ f.unheard o at; not_ended = λ o at. ended_same t e o (λ is. other (subst (λ n. IsOf n e) at is)) ∙ f.not_ended o at; not_open = shut f.not_open }
-
--- what was sent to a connection and is due to it stays
-pub text_same : (t : List Entry) (e : Entry) (s u : State) → u.due ≡ s.due → ((k : ℕ) → sent_up k (e ∷ t) ≡ sent_up k t) → (k : ℕ) → text_of k (e ∷ t) u.due ≡ text_of k t s.due
-text_same t e s u same_due same k = ap (λ x. x ++ owed k u.due) (same k) ∙ ap (λ d. sent_up k t ++ owed k d) same_due
+pub fares_same : (known : Known) (t : List Entry) (e : Entry) (was now : Due) (stream : ℕ) → (IsDueFor was stream → IsDueFor now stream) → exchanges (e ∷ t) ≡ exchanges t → items known stream (e ∷ t) ≡ items known stream t → Fares known t was stream → Fares known (e ∷ t) now stream
+fares_same known t e was now stream still same same_items (inl none) = inl (unread_same known t e stream same_items none)
+fares_same known t e was now stream still same same_items (inr (inl due)) = inr (inl (still due))
+fares_same known t e was now stream still same same_items (inr (inr g)) = inr (inr (g.0, given_there t e stream g.0 same g.1))
 
 -- where nothing is due, that can be done
-pub none_due : (known : Known) (t : List Entry) (u : State) → u.due ≡ Nothing → IsDue known t u u.due
-none_due known t u nothing = subst (IsDue known t u) (sym nothing) tt
+pub none_due : (known : Known) (t : List Entry) (ls : List Line) (due : Due) → due ≡ Nothing → IsDue known t ls due
+none_due known t ls due nothing = subst (IsDue known t ls) (sym nothing) tt
+
+-- ---- entries that pass
+
+-- What such an entry leaves as it is.
+pub record IsPassing (known : Known) (t : List Entry) (e : Entry) (s u : State) : Type 0 where
+  pub same_due : u.due ≡ s.due
+  pub due : IsDue known (e ∷ t) u.live u.due
+  pub same : exchanges (e ∷ t) ≡ exchanges t
+  pub same_opens : opens (e ∷ t) ≡ opens t
+  pub same_sent : (o : Opened) → sent_for o (e ∷ t) ≡ sent_for o t
+  pub same_owed : (o : Opened) → owed o (e ∷ t) s.due ≡ owed o t s.due
+  pub same_items : (stream : ℕ) → items known stream (e ∷ t) ≡ items known stream t
+  pub still_shut : (k : ℕ) → is_open k t ≡ false → is_open k (e ∷ t) ≡ false
+  pub count : u.count ≡ s.count
+  pub held : (stream : ℕ) (h : Held) → held_of stream u.held ≡ Some h → IsOnWay known (e ∷ t) u stream h.way
+  pub keeps : Keeps known (e ∷ t) u.live
+  pub goes : GoToOpen t → GoToOpen (e ∷ t)
+  pub in_time : BeginInTime known t → BeginInTime known (e ∷ t)
+  pub let_go : (k : ℕ) (earlier : List Entry) → IsLetGo known t k earlier → IsLetGo known (e ∷ t) k earlier
+  pub closes : LetGo known (e ∷ t) t → LetGo known (e ∷ t) (e ∷ t)
+  pub shut : is_closed (e ∷ t) ≡ true → u.live ≡ []
+
+-- what an exchange was sent and what is due to it stays
+pub text_same : (t : List Entry) (e : Entry) (was now : Due) (o : Opened) → now ≡ was → sent_for o (e ∷ t) ≡ sent_for o t → owed o (e ∷ t) was ≡ owed o t was → text_of o (e ∷ t) now ≡ text_of o t was
+text_same t e was now o same_due same_sent same_owed =
+    ap (text_of o (e ∷ t)) same_due ∙ ap (λ x. x ++ owed o (e ∷ t) was) same_sent ∙ ap (λ x. sent_for o t ++ x) same_owed
 
 -- an entry that passes is a step
 pub passes : (known : Known) (t : List Entry) (e : Entry) (s u : State) → Stands known t s → IsPassing known t e s u → Steps known t e s u
 passes known t e s u h p = record {
+  same = p.same;
   same_opens = p.same_opens;
   count = p.count;
-  lives = p.lives;
-  gone = p.gone;
-  sent = λ o i g. subst (λ x. IsSent known (e ∷ t) x o) (sym (text_same t e s u p.same_due p.same_sent o.k)) (sent_same known t e o (text_of o.k t s.due) h.off h.in_time i (p.same_items o.stream) (p.still_shut o.k) g.sent);
-  back = p.back;
-  fresh = λ k lt. fresh_same t e k (p.same_sent k) (p.not_fresh k lt) (p.still_shut k);
-  fares = λ stream. fares_same known t e s u stream (subst (λ d. IsDueFor d stream) (sym p.same_due)) p.same_opens (p.same_items stream) (h.fares stream);
+  sent = λ o i g. subst (λ x. IsSent known (e ∷ t) x o) (sym (text_same t e s.due u.due o p.same_due (p.same_sent o) (p.same_owed o))) (sent_same known t e o (text_of o t s.due) i (p.same_items o.stream) (p.still_shut o.k) g.sent);
+  past = λ o i past. p.same_sent o;
+  fares = λ stream. fares_same known t e s.due u.due stream (subst (λ d. IsDueFor d stream) (sym p.same_due)) p.same (p.same_items stream) (h.fares stream);
   held = p.held;
   due = p.due;
+  keeps = p.keeps;
   goes = p.goes h.goes;
   in_time = p.in_time h.in_time;
-  ends = p.ends;
+  let_go = p.let_go;
   closes = p.closes;
   shut = p.shut;
 }

@@ -1,19 +1,20 @@
 -- What is kept of open connections has the clauses on them, where it rests.
-use Rattle.std.proofs.Common.{◌≡◌, ℕ, suc, ◌≤◌, ◌<◌, ◌+◌, nat_lt, Bool, true, false, ◌&&◌, ◌||◌, ◌==◌, List, [], ◌∷◌, ◌++◌, map, length, refl, sym, ap, ◌∙◌, subst, inl, inr, arith, if◌then◌else◌}
+use Rattle.std.proofs.Common.{◌≡◌, ℕ, suc, ◌≤◌, ◌<◌, nat_lt, Bool, true, false, ◌&&◌, ◌||◌, ◌==◌, List, [], ◌∷◌, map, length, refl, sym, ap, ◌∙◌, subst, inl, inr, arith, if◌then◌else◌}
 use Rattle.std.specs.Prelude.{Option, Some, None, ◌⊎◌}
 use Rattle.std.specs.List.{list_any}
-use Rattle.std.proofs.lemmas.Bool.{eq-eqb, ne_eqb, cases_Bool, or_parts, and_parts, ltb-true, ltb-false, eqb-true}
+use Rattle.std.proofs.lemmas.Bool.{eq-eqb, ne_eqb, cases_Bool, and_parts, ltb-true, ltb-false, eqb-true}
 use Rattle.std.proofs.lemmas.Bool.Decides.{eqb_tells}
 use Rattle.model.specs.Tapes.{Entry}
-use Rattle.model.specs.Admission.{is_open}
 use Rattle.model.specs.Openings.{exchanges, exchange_on, route_of}
 use Rattle.model.specs.Known.{Known}
 use Rattle.model.specs.Responses.{H1Response}
 use Rattle.model.specs.Available.{heard_by}
 use Rattle.model.specs.ProgressClause.{Reason, AreClosed}
 use Rattle.model.specs.Idle.{is_asked_for_head, IsAllHeard, MayBeKept, IsIdle, AreIdle, FewAreIdle, NoneIdle, NoneIdleBefore, AreDistinct}
-use Rattle.serving.specs.Pool.{Answer, Line, line_of, is_idle, is_finished, idle_ones, lesser, least_idle, Answers, Keeps}
-use Rattle.serving.specs.Pool.Answer.{Pending, Idle, Done}
+use Rattle.serving.specs.Lines.{Answer, Line, k_of, line_of, is_idle, is_finished, idle_ones, lesser, least_idle}
+use Rattle.serving.specs.Pool.{Answers, Keeps}
+use Rattle.serving.specs.Lines.Answer.{Pending, Idle, Done}
+use Rattle.serving.proofs.Lists.{none_passes}
 
 -- ---- idle connections, by what is kept and by the tape
 
@@ -37,13 +38,7 @@ idle_found k (x ∷ xs) l e idle = elim (eqb_tells x.k k) [
 
 -- where none is to be closed, one that is found isn't
 pub none_finished : (k : ℕ) (ls : List Line) (l : Line) → list_any (λ (x : Line). is_finished x.answer) ls ≡ false → line_of k ls ≡ Some l → is_finished l.answer ≡ false
-none_finished k [] l none e = cc
-none_finished k (x ∷ xs) l none e =
-    let parts = or_parts (is_finished x.answer) (list_any (λ (y : Line). is_finished y.answer) xs) none in
-    elim (eqb_tells x.k k) [
-      | inl same ↦ (let found : Some x ≡ Some l = sym (ap (λ b. if b then Some x else line_of k xs) same.0) ∙ e in let is : x ≡ l = cc in ap (λ (y : Line). is_finished y.answer) (sym is) ∙ parts.0)
-      | inr apart ↦ none_finished k xs l parts.1 (sym (ap (λ b. if b then Some x else line_of k xs) apart.0) ∙ e)
-    ]
+none_finished k ls l none found = none_passes k_of (λ (x : Line). is_finished x.answer) k ls l none found
 
 -- what was heard of an idle connection is all of a response
 pub idle_heard : (known : Known) (t : List Entry) (k : ℕ) → MayBeKept known t (exchange_on k t) → IsAllHeard known t (exchange_on k t)

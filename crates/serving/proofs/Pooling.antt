@@ -1,6 +1,6 @@
 -- What is kept of open connections stays so behind an entry.
-use Rattle.std.proofs.Common.{◌≡◌, ℕ, ◌≤◌, ◌<◌, ◌+◌, nat_lt, Bool, true, false, not, ◌&&◌, ◌||◌, ◌==◌, List, [], ◌∷◌, ◌++◌, map, length, refl, sym, ap, ◌∙◌, subst, inl, inr, arith, if◌then◌else◌}
-use Rattle.std.specs.Prelude.{Option, Some, ◌⊎◌, filter}
+use Rattle.std.proofs.Common.{◌≡◌, ℕ, ◌≤◌, ◌<◌, nat_lt, Bool, true, false, not, ◌||◌, ◌==◌, List, [], ◌∷◌, map, length, refl, sym, ap, ◌∙◌, subst, inl, inr, arith, if◌then◌else◌}
+use Rattle.std.specs.Prelude.{Some, ◌⊎◌, filter}
 use Rattle.std.specs.List.{list_any}
 use Rattle.std.proofs.lemmas.Bool.{eq-eqb, ne_eqb, cases_Bool, or_parts, ltb-true, ltb-false}
 use Rattle.std.proofs.lemmas.Bool.Decides.{eqb_tells}
@@ -16,9 +16,11 @@ use Rattle.model.specs.Known.{Known}
 use Rattle.model.specs.ErrorClause.{must_end}
 use Rattle.model.specs.Courses.{upstream_of}
 use Rattle.model.specs.Idle.{is_asked_for_head, IsAllHeard, IsTooLong, LeavesOpen, MayBeKept, IsIdle, AreIdle, AreDistinct, IsOneTooMany, last_upstream, most_idle}
-use Rattle.serving.specs.Pool.{Answer, Line, line_of, is_idle, is_finished, idle_ones, Heard, Verdict, answer_by, idle_beside, with_answer, lines_heard, Answers, IsSo, Keeps}
-use Rattle.serving.specs.Pool.Answer.{Pending, Idle, Done}
-use Rattle.serving.specs.Pool.Heard.{Partly, Keepable, Finished}
+use Rattle.serving.specs.Lines.{Answer, Line, k_of, line_of, is_idle, is_finished, idle_ones, Heard, answer_by, idle_beside, with_answer, lines_heard}
+use Rattle.serving.specs.Pool.{Verdict, Answers, IsSo, Keeps}
+use Rattle.serving.specs.Lines.Answer.{Pending, Idle, Done}
+use Rattle.serving.specs.Lines.Heard.{Partly, Keepable, Finished}
+use Rattle.serving.proofs.Lists.{mapped_found, mapped_finds}
 use Rattle.serving.proofs.Pool.{IsOne, few_distinct, none_finished, idle_heard, HasLine, found_there, there_found, told_idle, is_so_idle}
 
 -- An entry leaves a connection as it is: its exchange, what was heard and sent of that, and whether it asks for a head.
@@ -230,22 +232,6 @@ each_idle known t (k ∷ ks) all = (all k (ap (λ b. b || list_any (λ m. m == k
 
 -- ---- an answer
 
--- what is found where one answer is another
-answer_found : (k : ℕ) (a : Answer) (n : ℕ) (ls : List Line) (l : Line) → line_of n (map (with_answer k a) ls) ≡ Some l → (x : Line) × (line_of n ls ≡ Some x) × (l ≡ with_answer k a x)
-answer_found k a n [] l e = cc
-answer_found k a n (x ∷ xs) l e = elim (eqb_tells x.k n) [
-  | inl same ↦ (let found : Some (with_answer k a x) ≡ Some l = sym (ap (λ b. if b then Some (with_answer k a x) else line_of n (map (with_answer k a) xs)) same.0) ∙ e in
-      let is : with_answer k a x ≡ l = cc in (x, ap (λ b. if b then Some x else line_of n xs) same.0, sym is))
-  | inr apart ↦ (let more = answer_found k a n xs l (sym (ap (λ b. if b then Some (with_answer k a x) else line_of n (map (with_answer k a) xs)) apart.0) ∙ e) in (more.0, ap (λ b. if b then Some x else line_of n xs) apart.0 ∙ more.1, more.2))
-]
-
-answer_finds : (k : ℕ) (a : Answer) (n : ℕ) (ls : List Line) (x : Line) → line_of n ls ≡ Some x → line_of n (map (with_answer k a) ls) ≡ Some (with_answer k a x)
-answer_finds k a n [] x e = cc
-answer_finds k a n (y ∷ ys) x e = elim (eqb_tells y.k n) [
-  | inl same ↦ (let found : Some y ≡ Some x = sym (ap (λ b. if b then Some y else line_of n ys) same.0) ∙ e in let is : y ≡ x = cc in ap (λ b. if b then Some (with_answer k a y) else line_of n (map (with_answer k a) ys)) same.0 ∙ ap {A = Line} {B = Option Line} (λ z. Some (with_answer k a z)) is)
-  | inr apart ↦ ap (λ b. if b then Some (with_answer k a y) else line_of n (map (with_answer k a) ys)) apart.0 ∙ answer_finds k a n ys x (sym (ap (λ b. if b then Some y else line_of n ys) apart.0) ∙ e)
-]
-
 pub answer_numbers : (k : ℕ) (a : Answer) (ls : List Line) → numbers (map (with_answer k a) ls) ≡ numbers ls
 answer_numbers k a [] = refl
 answer_numbers k a (l ∷ ls) = ap (λ (ns : List ℕ). l.k ∷ ns) (answer_numbers k a ls)
@@ -362,7 +348,7 @@ module _ (known : Known) (t : List Entry) (ls : List Line) (h : Keeps known t ls
 
   so_now : (n : ℕ) (l : Line) → line_of n new ≡ Some l → IsSo known (Happened event ∷ t) n l
   so_now n l found =
-      let was = answer_found k answer n ls l found in
+      let was = mapped_found k_of (with_answer k answer) (λ x. refl) n ls l found in
       let s = h.are_so n was.0 was.1 in
       let number : was.0.k ≡ n = (found_there n ls was.0 was.1).1 in
       subst (IsSo known (Happened event ∷ t) n) (sym was.2) (elim (eqb_tells n k) [
@@ -385,7 +371,7 @@ module _ (known : Known) (t : List Entry) (ls : List Line) (h : Keeps known t ls
   pub keeps_heard : Keeps known (Happened event ∷ t) new
   keeps_heard = record {
     are_so = so_now;
-    all = λ n on. (let was = h.all n (sym (open_same n) ∙ on) in (with_answer k answer was.0, answer_finds k answer n ls was.0 was.1));
+    all = λ n on. (let was = h.all n (sym (open_same n) ∙ on) in (with_answer k answer was.0, mapped_finds k_of (with_answer k answer) (λ x. refl) n ls was.0 was.1));
     distinct = distinct_now;
     few = few_now;
   }

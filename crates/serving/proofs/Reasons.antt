@@ -71,8 +71,8 @@ ended_same t (Did act) o other = refl
 
 -- ---- reasons
 
--- What was heard of a connection that is on a stream on which something came stays a whole response or none, whatever comes but an
--- answer of its own upstream.
+-- What was heard of a connection that is on a stream on which something came stays a whole response, whatever comes but an answer of
+-- its own upstream.
 module _ (known : Known) (t : List Entry) (e : Entry) (o : Opened) (begun : items known o.stream t ≡ [] → ⊥) (other : IsOf o.k e → ⊥) where
   to_head_same : is_to_head (items known o.stream t) ≡ is_to_head (items known o.stream (e ∷ t))
   to_head_same = head_stays known o.stream t e begun
@@ -80,10 +80,6 @@ module _ (known : Known) (t : List Entry) (e : Entry) (o : Opened) (begun : item
   pub all_heard_there : IsAllHeard known t o → IsAllHeard known (e ∷ t) o
   all_heard_there c =
       subst (λ x. IsComplete x (ended_by o (e ∷ t)) (is_to_head (items known o.stream (e ∷ t)))) (sym (heard_same t e o other)) (subst (λ x. IsComplete (heard_by o t) x (is_to_head (items known o.stream (e ∷ t)))) (sym (ended_same t e o other)) (subst (λ x. IsComplete (heard_by o t) (ended_by o t) x) to_head_same c))
-
-  pub all_heard_back : IsAllHeard known (e ∷ t) o → IsAllHeard known t o
-  all_heard_back c =
-      subst (λ x. IsComplete x (ended_by o t) (is_to_head (items known o.stream t))) (heard_same t e o other) (subst (λ x. IsComplete (heard_by o (e ∷ t)) x (is_to_head (items known o.stream t))) (ended_same t e o other) (subst (λ x. IsComplete (heard_by o (e ∷ t)) (ended_by o (e ∷ t)) x) (sym to_head_same) c))
 
 -- A reason stays, whatever comes but an answer of the connection's own upstream.
 pub reason_stays : (known : Known) (t : List Entry) (e : Entry) (o : Opened) → is_opened o.stream t ≡ true → (items known o.stream t ≡ [] → ⊥) → (IsOf o.k e → ⊥) → Reason known t o → Reason known (e ∷ t) o

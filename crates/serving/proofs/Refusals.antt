@@ -6,7 +6,9 @@ use Rattle.model.specs.Messages.Item.{Content}
 use Rattle.h1_writer.specs.Sending.{Stage, chunk_text}
 use Rattle.h1_writer.specs.Sending.Stage.{Whole, Chunking}
 use Rattle.serving.specs.Told.{Told}
-use Rattle.serving.specs.State.{Live, state_of}
+use Rattle.serving.specs.Lines.{Line}
+use Rattle.serving.specs.Lines.Answer.{Pending}
+use Rattle.serving.specs.State.{state_of}
 use Rattle.serving.specs.State.Due.{Nothing, ToOpen}
 use Rattle.serving.specs.Rule.{is_done, MayCome, MayBegin, MayGather, MayOpen, MayClose}
 use Rattle.serving.proofs.Telling.{serving}
@@ -19,10 +21,10 @@ closes_early may = elim may.why [
   | inr ends ↦ (let clash : false ≡ true = ends in cc)
 ]
   where
-    both : Some (record { k = 1; stream = 3; whole = false }) ≡ Some may.live
+    both : Some (record { k = 1; route = 0; stream = 3; answer = Pending }) ≡ Some may.line
     both = may.found
 
-    same : ◌≡◌ {A = Live} (record { k = 1; stream = 3; whole = false }) may.live
+    same : ◌≡◌ {A = Line} (record { k = 1; route = 0; stream = 3; answer = Pending }) may.line
     same = let found = both in cc
 
 -- none is opened for a request that waits

@@ -1,15 +1,14 @@
 -- An idle connection is given to another stream, and one is opened for a stream: what is kept stays so.
-use Rattle.std.proofs.Common.{◌≡◌, ℕ, ◌≤◌, ◌<◌, ◌+◌, Bool, true, false, not, ◌&&◌, ◌||◌, ◌==◌, List, [], ◌∷◌, ◌++◌, map, length, refl, sym, ap, ◌∙◌, subst, inl, inr, arith, if◌then◌else◌}
-use Rattle.std.specs.Prelude.{Option, Some, ◌⊎◌}
+use Rattle.std.proofs.Common.{◌≡◌, ℕ, ◌≤◌, Bool, true, false, not, ◌==◌, List, [], ◌∷◌, map, length, refl, sym, ap, ◌∙◌, subst, inl, inr, arith, if◌then◌else◌}
+use Rattle.std.specs.Prelude.{Some}
 use Rattle.std.specs.List.{list_any}
-use Rattle.std.proofs.lemmas.Bool.{eq-eqb, ne_eqb, and_right}
+use Rattle.std.proofs.lemmas.Bool.{eq-eqb, ne_eqb}
 use Rattle.std.proofs.lemmas.Bool.Decides.{eqb_tells}
 use Rattle.model.specs.Responses.{IsComplete}
 use Rattle.model.specs.Logs.{Act}
-use Rattle.model.specs.Logs.Event.{Client, ClientEnd, ClientTook, Up, UpEnd, UpFailed, UpTook}
-use Rattle.model.specs.Logs.Act.{Open, ToUp, Close, CloseClient}
+use Rattle.model.specs.Logs.Act.{Open, ToUp, Close}
 use Rattle.model.specs.Tapes.{Entry}
-use Rattle.model.specs.Tapes.Entry.{Came, Breached, Happened, Sent, Did}
+use Rattle.model.specs.Tapes.Entry.{Did}
 use Rattle.model.specs.Admission.{is_open}
 use Rattle.model.specs.Openings.{Opened, exchanges, exchange_on, route_of, given, begins_another, last_stream, IsGivenNone}
 use Rattle.model.specs.Available.{heard_by, ended_by}
@@ -19,55 +18,21 @@ use Rattle.model.specs.ErrorClause.{must_end}
 use Rattle.model.specs.Idle.{is_asked_for_head, IsAllHeard, AreDistinct, most_idle}
 use Rattle.model.proofs.ItemLaws.{items_stay}
 use Rattle.model.proofs.OfferLemmas.{nothing_complete}
-use Rattle.model.proofs.ExchangeLaws.{none_before, sent_beside}
-use Rattle.serving.specs.Pool.{Line, line_of, is_idle, is_finished, idle_ones, with_answer, given_to, lines_given, Answers, IsSo, Keeps}
-use Rattle.serving.specs.Pool.Answer.{Pending}
+use Rattle.model.proofs.ExchangeLaws.{another_on, first_on, sent_beside, given_one, unheard}
+use Rattle.serving.specs.Lines.{Line, k_of, line_of, is_idle, is_finished, idle_ones, with_answer, given_to, lines_given}
+use Rattle.serving.specs.Pool.{Answers, IsSo, Keeps}
+use Rattle.serving.specs.Lines.Answer.{Pending}
+use Rattle.serving.proofs.Lists.{mapped_found, mapped_finds}
 use Rattle.serving.proofs.Pool.{IsOne, few_distinct, none_finished, found_there}
-use Rattle.model.proofs.AloneLaws.{none_begins}
+use Rattle.model.proofs.AloneLaws as alone
 use Rattle.serving.proofs.Pooling.{Leaves, so_there, numbers, idle_distinct, answer_idle, answer_not}
 
--- the exchanges that a connection is given to another stream for, and opened for
-abbrev another_on : ℕ → List Entry → Opened
-another_on k t = record { k = k; route = route_of k (exchanges t); stream = last_stream t }
-
-abbrev first_on : ℕ → ℕ → List Entry → Opened
-first_on k route t = record { k = k; route = route; stream = last_stream t }
-
--- the newest of a connection
+-- the newest exchange of a connection
 abbrev newest : ℕ → List Opened → Opened
 newest k os = record { k = k; route = route_of k os; stream = given k os }
 
--- ---- nothing was heard for a stream that was given none
+-- ---- no whole response was heard for a stream that was given none
 
--- a connection was given to a stream of its exchanges, if to any
-given_one : (k s : ℕ) (os : List Opened) → IsGivenNone s os → (s ≡ 0 → ⊥) → s ≡ given k os → ⊥
-given_one k s [] n some e = some e
-given_one k s (o ∷ os) n some e = elim (eqb_tells o.k k) [
-  | inl x ↦ n.0 (e ∙ ap (λ b. if b then o.stream else given k os) x.0)
-  | inr x ↦ given_one k s os n.1 some (e ∙ ap (λ b. if b then o.stream else given k os) x.0)
-]
-
-apart_of : (o : Opened) (k : ℕ) (os : List Opened) → IsGivenNone o.stream os → (o.stream ≡ 0 → ⊥) → (o.k == k && o.stream == given k os) ≡ false
-apart_of o k os n some = ap (λ b. o.k == k && b) (ne_eqb o.stream (given k os) (given_one k o.stream os n some)) ∙ and_right (o.k == k) false refl
-
-pub unheard : (o : Opened) (t : List Entry) → IsGivenNone o.stream (exchanges t) → (o.stream ≡ 0 → ⊥) → (heard_by o t ≡ []) × (ended_by o t ≡ false)
-unheard o [] n some = (refl, refl)
-unheard o (Came noted ∷ t) n some = unheard o t n some
-unheard o (Breached breach ∷ t) n some = unheard o t n some
-unheard o (Happened (Client piece) ∷ t) n some = unheard o t n some
-unheard o (Happened ClientEnd ∷ t) n some = unheard o t n some
-unheard o (Happened (ClientTook count) ∷ t) n some = unheard o t n some
-unheard o (Happened (Up k piece) ∷ t) n some = let more = unheard o t n some in (ap (λ b. if b then heard_by o t ++ piece else heard_by o t) (apart_of o k (exchanges t) n some) ∙ more.0, more.1)
-unheard o (Happened (UpEnd k) ∷ t) n some = let more = unheard o t n some in (more.0, ap (λ b. if b then true else ended_by o t) (apart_of o k (exchanges t) n some) ∙ more.1)
-unheard o (Happened (UpFailed k) ∷ t) n some = unheard o t n some
-unheard o (Happened (UpTook k count) ∷ t) n some = unheard o t n some
-unheard o (Sent noted ∷ t) n some = unheard o t n some
-unheard o (Did (Open k route) ∷ t) n some = unheard o t n.1 some
-unheard o (Did (ToUp k octets) ∷ t) n some = unheard o t (none_before o.stream k octets t n) some
-unheard o (Did (Close k) ∷ t) n some = unheard o t n some
-unheard o (Did CloseClient ∷ t) n some = unheard o t n some
-
--- so no whole response was
 pub none_heard : (known : Known) (o : Opened) (t : List Entry) (act : Act) → IsGivenNone o.stream (exchanges t) → (o.stream ≡ 0 → ⊥) → heard_by o (Did act ∷ t) ≡ heard_by o t → ended_by o (Did act ∷ t) ≡ ended_by o t → IsAllHeard known (Did act ∷ t) o → ⊥
 none_heard known o t act n some heard ended c =
     let empty = unheard o t n some in
@@ -124,21 +89,6 @@ closes_leave known t j k apart = record {
 
 -- ---- lines that change
 
-mapped_found : (f : Line → Line) → ((x : Line) → (f x).k ≡ x.k) → (n : ℕ) (ls : List Line) (l : Line) → line_of n (map f ls) ≡ Some l → (x : Line) × (line_of n ls ≡ Some x) × (l ≡ f x)
-mapped_found f same n [] l e = cc
-mapped_found f same n (x ∷ xs) l e = elim (eqb_tells x.k n) [
-  | inl here ↦ (let found : Some (f x) ≡ Some l = sym (ap (λ b. if b then Some (f x) else line_of n (map f xs)) (ap (λ m. m == n) (same x) ∙ here.0)) ∙ e in
-      let is : f x ≡ l = cc in (x, ap (λ b. if b then Some x else line_of n xs) here.0, sym is))
-  | inr apart ↦ (let more = mapped_found f same n xs l (sym (ap (λ b. if b then Some (f x) else line_of n (map f xs)) (ap (λ m. m == n) (same x) ∙ apart.0)) ∙ e) in (more.0, ap (λ b. if b then Some x else line_of n xs) apart.0 ∙ more.1, more.2))
-]
-
-mapped_finds : (f : Line → Line) → ((x : Line) → (f x).k ≡ x.k) → (n : ℕ) (ls : List Line) (x : Line) → line_of n ls ≡ Some x → line_of n (map f ls) ≡ Some (f x)
-mapped_finds f same n [] x e = cc
-mapped_finds f same n (y ∷ ys) x e = elim (eqb_tells y.k n) [
-  | inl here ↦ (let found : Some y ≡ Some x = sym (ap (λ b. if b then Some y else line_of n ys) here.0) ∙ e in let is : y ≡ x = cc in ap (λ b. if b then Some (f y) else line_of n (map f ys)) (ap (λ m. m == n) (same y) ∙ here.0) ∙ ap {A = Line} {B = Option Line} (λ z. Some (f z)) is)
-  | inr apart ↦ ap (λ b. if b then Some (f y) else line_of n (map f ys)) (ap (λ m. m == n) (same y) ∙ apart.0) ∙ mapped_finds f same n ys x (sym (ap (λ b. if b then Some y else line_of n ys) apart.0) ∙ e)
-]
-
 given_idle : (k stream : ℕ) (ls : List Line) → idle_ones (map (given_to k stream) ls) ≡ idle_ones (map (with_answer k Pending) ls)
 given_idle k stream [] = refl
 given_idle k stream (l ∷ ls) = ap (λ (js : List ℕ). if is_idle (if l.k == k then Pending else l.answer) then l.k ∷ js else js) (given_idle k stream ls)
@@ -157,10 +107,10 @@ module _ (known : Known) (t : List Entry) (ls : List Line) (h : Keeps known t ls
   new = lines_given k (last_stream t) ls
 
   -- another exchange begins
-  begins : begins_another (given k (exchanges t)) (last_stream t) (octet ∷ octets) ≡ true
+  pub begins : begins_another (given k (exchanges t)) (last_stream t) (octet ∷ octets) ≡ true
   begins = ap not (ne_eqb (given k (exchanges t)) (last_stream t) (λ same. given_one k (last_stream t) (exchanges t) none_given some (sym same)))
 
-  now : exchanges (e ∷ t) ≡ another_on k t ∷ exchanges t
+  pub now : exchanges (e ∷ t) ≡ another_on k t ∷ exchanges t
   now = ap (λ b. if b then another_on k t ∷ exchanges t else exchanges t) begins
 
   exchange_now : exchange_on k (e ∷ t) ≡ another_on k t
@@ -190,7 +140,7 @@ module _ (known : Known) (t : List Entry) (ls : List Line) (h : Keeps known t ls
 
   so_now : (n : ℕ) (l : Line) → line_of n new ≡ Some l → IsSo known (e ∷ t) n l
   so_now n l found =
-      let was = mapped_found (given_to k (last_stream t)) (λ x. refl) n ls l found in
+      let was = mapped_found k_of (given_to k (last_stream t)) (λ x. refl) n ls l found in
       let s = h.are_so n was.0 was.1 in
       let number : was.0.k ≡ n = (found_there n ls was.0 was.1).1 in
       subst (IsSo known (e ∷ t) n) (sym was.2) (elim (eqb_tells n k) [
@@ -204,7 +154,7 @@ module _ (known : Known) (t : List Entry) (ls : List Line) (h : Keeps known t ls
   pub keeps_given : Keeps known (e ∷ t) new
   keeps_given = record {
     are_so = so_now;
-    all = λ n up. (let was = h.all n up in (given_to k (last_stream t) was.0, mapped_finds (given_to k (last_stream t)) (λ x. refl) n ls was.0 was.1));
+    all = λ n up. (let was = h.all n up in (given_to k (last_stream t) was.0, mapped_finds k_of (given_to k (last_stream t)) (λ x. refl) n ls was.0 was.1));
     distinct = distinct_now;
     few = few_now;
   }
@@ -213,7 +163,7 @@ module _ (known : Known) (t : List Entry) (ls : List Line) (h : Keeps known t ls
 
 module _ (known : Known) (t : List Entry) (ls : List Line) (h : Keeps known t ls) (none : list_any (λ (x : Line). is_finished x.answer) ls ≡ false) (k : ℕ) (octets : List ℕ) (pending : (l : Line) → line_of k ls ≡ Some l → l.answer ≡ Pending) (its : given k (exchanges t) ≡ last_stream t) (ends : must_end known t ≡ true → must_end known (Did (ToUp k octets) ∷ t) ≡ true) where
   same_exchanges : exchanges (Did (ToUp k octets) ∷ t) ≡ exchanges t
-  same_exchanges = ap (λ b. if b then another_on k t ∷ exchanges t else exchanges t) (none_begins (given k (exchanges t)) (last_stream t) octets its)
+  same_exchanges = alone.same_exchanges t k octets its
 
   not_whole : (l : Line) → line_of k ls ≡ Some l → IsAllHeard known (Did (ToUp k octets) ∷ t) (exchange_on k (Did (ToUp k octets) ∷ t)) → ⊥
   not_whole l found c =

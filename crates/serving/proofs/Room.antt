@@ -30,9 +30,10 @@ use Rattle.model.specs.Http1Text.{lines_text}
 use Rattle.serving.specs.Written.{octets_of, trailers_in, IsAwaited}
 use Rattle.serving.proofs.Trailing.{bare, lines_within}
 use Rattle.serving.specs.Told.{is_served, Told, IsTold}
-use Rattle.serving.specs.State.{Held, id_of, kept, held_of, held_with, held_opened, waits_from, without, due_opened, Due, State, Move, entry_of, is_whole, goes_now, to_open, to_send, after, Turn, state_of, tape_of}
+use Rattle.serving.specs.Lines.{without, least_idle}
+use Rattle.serving.specs.State.{Held, id_of, kept, held_of, held_with, held_opened, waits_from, due_opened, Due, to_begin, State, Move, entry_of, is_whole, goes_now, to_open, to_send, after, Turn, state_of, tape_of}
 use Rattle.serving.specs.State.Way.{Waiting, Going}
-use Rattle.serving.specs.State.Due.{Nothing, ToOpen, ToSend}
+use Rattle.serving.specs.State.Due.{Nothing, ToOpen, ToUse, ToSend}
 use Rattle.serving.specs.State.Move.{Takes, Begins, Gathers, Passes, Drops, Breaks, Notes, Hears, Fails, Sends, Acts}
 use Rattle.serving.specs.Rule.{IsServing, MayBegin, IsGathered, MayGather, MayPass, MayMove, told_of, AreAllowed}
 use Rattle.serving.specs.Meaning.{Brings, IsSo, AreSo}
@@ -167,12 +168,12 @@ read_frames_fit text t (inr (inr behind)) = fit_came t (read_fit behind.behind (
 -- ---- texts
 
 -- the text of a head that waits
-pub waits_short : (known : Known) (t : List Entry) (stream : ℕ) (text : List ℕ) (stage : Stage) (body : List ℕ) → 0 < stream → (w : IsAwaited (items known stream t) text stage body)
-    → (length text + held_back stage ≤ most_head) × (length body ≤ known.setup.max_body) × (length (head_of false (parts_of w.head) false) ≤ most_head)
+pub waits_short : (known : Known) (t : List Entry) (stream : ℕ) (text : List ℕ) (stage : Stage) (body : List ℕ) → 0 < stream → (w : IsAwaited known.setup.keep (items known stream t) text stage body)
+    → (length text + held_back stage ≤ most_head) × (length body ≤ known.setup.max_body) × (length (head_of known.setup.keep (parts_of w.head) false) ≤ most_head)
 waits_short known t stream text stage body some w =
     let small = items_small known stream some t in
-    let head = head_short w.head false w.well_formed (small.head w.head (subst (λ xs. HasHead xs w.head) (sym w.is) refl)) in
-    let size = head_waits (parts_of w.head) false text stage w.sending w.part in
+    let head = head_short known.setup.keep w.head false w.well_formed (small.head w.head (subst (λ xs. HasHead xs w.head) (sym w.is) refl)) in
+    let size = head_waits known.setup.keep (parts_of w.head) false text stage w.sending w.part in
     let body_size : length body ≡ length (body_of (items known stream t)) = ap length (w.body_is ∙ sym (ap body_of w.is)) in
     let fits = small.body in
     (omega (arith, head, size), omega (arith, body_size, fits), head)
@@ -202,6 +203,7 @@ HasRoomFor most m = Unit {0}
 abbrev pub DueFits : ℕ → List Held → Due → Type 0
 DueFits most hs Nothing = Unit {0}
 DueFits most hs (ToOpen stream route text stage) = (length text + 1 ≤ most) × (held_of stream hs ≡ None)
+DueFits most hs (ToUse k stream text stage) = (length text + 1 ≤ most) × (held_of stream hs ≡ None)
 DueFits most hs (ToSend k text) = length text + 1 ≤ most
 
 -- nothing is due
@@ -209,14 +211,23 @@ none_due : (most : ℕ) (hs : List Held) (due : Due) → due ≡ Nothing → Due
 none_due most hs due is = subst (DueFits most hs) (sym is) tt
 
 -- of what is held less may be kept
-fewer_fit : (most : ℕ) (told : Told) (hs : List Held) (due : Due) → DueFits most hs due → DueFits most (kept told hs) due
-fewer_fit most told hs Nothing fits = tt
-fewer_fit most told hs (ToSend k text) fits = fits
-fewer_fit most told hs (ToOpen stream route text stage) fits = (fits.0, by (held_of stream (kept told hs)) refl)
+none_kept : (told : Told) (stream : ℕ) (hs : List Held) → held_of stream hs ≡ None → held_of stream (kept told hs) ≡ None
+none_kept told stream hs none = by (held_of stream (kept told hs)) refl
   where
     by : (o : Option Held) → held_of stream (kept told hs) ≡ o → o ≡ None
     by None is = refl
-    by (Some x) is = absurd (let clash : ◌≡◌ {A = Option Held} None (Some x) = sym fits.1 ∙ (held_kept told stream hs x is).0 in cc)
+    by (Some x) is = absurd (let clash : ◌≡◌ {A = Option Held} None (Some x) = sym none ∙ (held_kept told stream hs x is).0 in cc)
+
+fewer_fit : (most : ℕ) (told : Told) (hs : List Held) (due : Due) → DueFits most hs due → DueFits most (kept told hs) due
+fewer_fit most told hs Nothing fits = tt
+fewer_fit most told hs (ToSend k text) fits = fits
+fewer_fit most told hs (ToOpen stream route text stage) fits = (fits.0, none_kept told stream hs fits.1)
+fewer_fit most told hs (ToUse k stream text stage) fits = (fits.0, none_kept told stream hs fits.1)
+
+-- a text that begins an exchange fits, on whichever connection
+begun_fits : (most : ℕ) (hs : List Held) (idle : Option ℕ) (stream route : ℕ) (text : List ℕ) (stage : Stage) → length text + 1 ≤ most → held_of stream hs ≡ None → DueFits most hs (to_begin idle stream route text stage)
+begun_fits most hs None stream route text stage short none = (short, none)
+begun_fits most hs (Some k) stream route text stage short none = (short, none)
 
 module _ (known : Known) (t : List Entry) (s : State) (h : Stands known t s) (behind : Told) (most : ℕ) (base : most_beside ≤ most) (was : DueFits most s.held s.due) where
   begins_fit : (before : Told) (noted : Noted) (head : List Field) (ended : Bool) (route : ℕ) (text : List ℕ) (stage : Stage) → IsTold known (Came noted ∷ t) behind → IsSo known t (Begins noted head ended route text stage) → MayBegin known.setup behind noted head ended route text stage
@@ -230,12 +241,12 @@ module _ (known : Known) (t : List Entry) (s : State) (h : Stands known t s) (be
       short =
           let small = items_small known noted.frame.id may.serving.counted (Came noted ∷ t) in
           let good = head_fits known t noted head ended so.0 so.1 may.serving.counted (calm known t noted behind is_behind may.serving) in
-          let size = head_short head ended good.well_formed (small.head head (subst (λ xs. HasHead xs head) (sym now) refl)) in
-          let all = one_piece (parts_of head) ended text [] [] stage (omega arith) may.sending in
+          let size = head_short known.setup.keep head ended good.well_formed (small.head head (subst (λ xs. HasHead xs head) (sym now) refl)) in
+          let all = one_piece known.setup.keep (parts_of head) ended text [] [] stage (omega arith) may.sending in
           omega (arith, size, all, base)
 
-      by : (goes : Bool) → DueFits most (held_with noted.frame.id (waits_from goes (Waiting route text stage [])) s.held) (to_open goes noted.frame.id route text stage)
-      by true = (short, find_gone id_of noted.frame.id s.held)
+      by : (goes : Bool) → DueFits most (held_with noted.frame.id (waits_from goes (Waiting route text stage [])) s.held) (to_open goes (least_idle route s.live) noted.frame.id route text stage)
+      by true = begun_fits most _ (least_idle route s.live) noted.frame.id route text stage short (find_gone id_of noted.frame.id s.held)
       by false = tt
 
   gathers_fit : (noted : Noted) (item : Item) (route : ℕ) (text : List ℕ) (old : Stage) (body written : List ℕ) (stage : Stage) → MayGather behind s noted item route text old body written stage → HasRoomFor most (Gathers noted item route text old body written stage)
@@ -245,22 +256,22 @@ module _ (known : Known) (t : List Entry) (s : State) (h : Stands known t s) (be
       w : IsWaiting known t noted.frame.id route text old body
       w = h.held noted.frame.id (record { id = noted.frame.id; way = Waiting route text old body }) may.found
 
-      pieces_of : (ends : Bool) → IsGathered ends old (body ++ octets_of item) (trailers_in item) written stage → is_whole stage ≡ true → Sending false (parts_of w.awaited.head) false (text ++ written) ([] ++ piece_of (body ++ octets_of item)) (trailers_in item) stage
-      pieces_of true g whole = g.0 false (parts_of w.awaited.head) false text [] w.awaited.sending
+      pieces_of : (ends : Bool) → IsGathered ends old (body ++ octets_of item) (trailers_in item) written stage → is_whole stage ≡ true → Sending known.setup.keep (parts_of w.awaited.head) false (text ++ written) ([] ++ piece_of (body ++ octets_of item)) (trailers_in item) stage
+      pieces_of true g whole = g.0 known.setup.keep (parts_of w.awaited.head) false text [] w.awaited.sending
       pieces_of false g whole = absurd (w.awaited.part (whole_told old (sym (ap is_whole g.1) ∙ whole)))
 
       short : is_whole stage ≡ true → length (text ++ written) + 1 ≤ most
       short whole =
           let rest = waits_short known t noted.frame.id text old body may.serving.counted w.awaited in
           let space = room whole in
-          let all = one_piece (parts_of w.awaited.head) false (text ++ written) (body ++ octets_of item) (trailers_in item) stage space.0 (pieces_of (ends_with item) may.gathered whole) in
+          let all = one_piece known.setup.keep (parts_of w.awaited.head) false (text ++ written) (body ++ octets_of item) (trailers_in item) stage space.0 (pieces_of (ends_with item) may.gathered whole) in
           let head = rest.2 in
           let fits = space.1 in
           let lines = space.2 in
           omega (arith, head, all, fits, lines)
 
-      by : (whole : Bool) → is_whole stage ≡ whole → DueFits most (held_with noted.frame.id (if whole then None else Some (Waiting route text stage (body ++ octets_of item))) s.held) (to_open whole noted.frame.id route (text ++ written) stage)
-      by true whole = (short whole, find_gone id_of noted.frame.id s.held)
+      by : (whole : Bool) → is_whole stage ≡ whole → DueFits most (held_with noted.frame.id (if whole then None else Some (Waiting route text stage (body ++ octets_of item))) s.held) (to_open whole (least_idle route s.live) noted.frame.id route (text ++ written) stage)
+      by true whole = begun_fits most _ (least_idle route s.live) noted.frame.id route (text ++ written) stage (short whole) (find_gone id_of noted.frame.id s.held)
       by false part = tt
 
   passes_fit : (noted : Noted) (item : Item) (k : ℕ) (old : Stage) (written : List ℕ) (stage : Stage) (hs : List Held) → MayPass behind s noted item k old written stage → HasRoom most (length (octets_of item)) → length (lines_text (trailers_in item)) ≤ most_trailers → DueFits most hs (to_send k written)
@@ -272,7 +283,7 @@ module _ (known : Known) (t : List Entry) (s : State) (h : Stands known t s) (be
       short : length written + 1 ≤ most
       short =
           let sent = w.written in
-          let size = written_length (parts_of sent.head) sent.ended (text_of k t s.due) written (octets_of item) sent.pieces (trailers_in item) old stage space.fits (bare _ _ old sent (part_told old w.part)) (part_told old w.part) (may.continues false (parts_of sent.head) sent.ended (text_of k t s.due) sent.pieces (bare _ _ old sent (part_told old w.part))) in
+          let size = written_length known.setup.keep (parts_of sent.head) sent.ended (text_of w.o t s.due) written (octets_of item) sent.pieces (trailers_in item) old stage space.fits (bare _ _ _ old sent (part_told old w.part)) (part_told old w.part) (may.continues known.setup.keep (parts_of sent.head) sent.ended (text_of w.o t s.due) sent.pieces (bare _ _ _ old sent (part_told old w.part))) in
           let back = back_one old in
           let room = space.room in
           omega (arith, size, back, room, lines)
@@ -289,7 +300,7 @@ module _ (known : Known) (t : List Entry) (s : State) (h : Stands known t s) (be
   due_behind before (Drops noted item) so may is room = none_due most _ s.due may.0.nothing
   due_behind before (Breaks breach) so may is room = none_due most _ s.due may.nothing
   due_behind before (Notes event) so may is room = none_due most _ s.due may.0.nothing
-  due_behind before (Hears event whole) so may is room = none_due most _ s.due may.0.nothing
+  due_behind before (Hears event heard) so may is room = none_due most _ s.due may.0.nothing
   due_behind before (Fails k) so may is room = none_due most _ s.due may.0.nothing
   due_behind before (Sends noted) so may is room = fewer_fit most behind s.held s.due was
   due_behind before (Acts (Open k route)) so may is room = opened
@@ -350,7 +361,7 @@ room_by_body known fits (turn ∷ turns) all so = (room_by_body known fits turns
     by (Drops noted item) is told may = tt
     by (Breaks breach) is told may = tt
     by (Notes event) is told may = tt
-    by (Hears event whole) is told may = tt
+    by (Hears event heard) is told may = tt
     by (Fails k) is told may = tt
     by (Sends noted) is told may = tt
     by (Acts act) is told may = tt
@@ -391,7 +402,7 @@ room_by_frame known streaming (turn ∷ turns) all so frames = (room_by_frame kn
     earlier (Drops noted item) f = f.1
     earlier (Breaks breach) f = f
     earlier (Notes event) f = f
-    earlier (Hears event whole) f = f
+    earlier (Hears event heard) f = f
     earlier (Fails k) f = f
     earlier (Sends noted) f = f
     earlier (Acts act) f = f
@@ -410,7 +421,7 @@ room_by_frame known streaming (turn ∷ turns) all so frames = (room_by_frame kn
     by (Drops noted item) is told may f = tt
     by (Breaks breach) is told may f = tt
     by (Notes event) is told may f = tt
-    by (Hears event whole) is told may f = tt
+    by (Hears event heard) is told may f = tt
     by (Fails k) is told may f = tt
     by (Sends noted) is told may f = tt
     by (Acts act) is told may f = tt

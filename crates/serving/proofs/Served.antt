@@ -11,30 +11,30 @@ use Rattle.model.specs.Logs.Act.{Open, ToUp, Close, CloseClient}
 use Rattle.model.specs.Tapes.{Noted, Breach, Entry, is_closed}
 use Rattle.model.specs.Tapes.Entry.{Came, Breached, Happened, Sent, Did}
 use Rattle.model.specs.Logs.{Event, Act}
-use Rattle.model.specs.Openings.{Opened, opens, given, exchanges}
-use Rattle.model.proofs.ExchangeLaws.{none_kept}
+use Rattle.model.specs.Openings.{given, exchanges}
 use Rattle.model.specs.Known.{Known}
 use Rattle.model.specs.Lifetimes.{opened, active, is_opened, is_over, is_active}
 use Rattle.model.specs.Causes.{Cause}
 use Rattle.model.specs.ErrorTable.{fault_with}
 use Rattle.model.specs.Courses.{course, carried, cause, cause_at, first_of_both, about}
 use Rattle.model.proofs.ActiveLaws.{active_came}
-use Rattle.model.proofs.DeliveryReadings.{one_number}
-use Rattle.model.proofs.GivenLaws.{given_zero}
+use Rattle.serving.proofs.Numbers.{zero_given}
 use Rattle.h1_writer.specs.Sending.{Stage}
 use Rattle.serving.specs.Told.{is_served, Told, IsTold}
-use Rattle.serving.specs.State.{Way, Held, id_of, held_of, with_way, held_at, held_with, held_opened, held_after, kept, drop_from, without, Live, k_of, live_of, live_acted, live_after, Due, to_open, to_send, due_opened, due_after, is_whole, goes_now, State, Move, entry_of, after, Turn, state_of, tape_of}
+use Rattle.serving.specs.Lines.{without, Line, k_of, line_of, least_idle, lines_opened}
+use Rattle.serving.specs.Lines.Answer.{Pending}
+use Rattle.serving.specs.State.{Way, Held, id_of, held_of, with_way, held_at, held_with, held_opened, held_used, held_after, kept, drop_from, live_acted, live_after, Due, to_open, to_send, due_opened, due_after, is_whole, goes_now, State, Move, entry_of, after, Turn, state_of, tape_of}
 use Rattle.serving.specs.State.Way.{Going}
-use Rattle.serving.specs.State.Due.{Nothing, ToOpen, ToSend}
+use Rattle.serving.specs.State.Due.{Nothing, ToOpen, ToUse, ToSend}
 use Rattle.serving.specs.State.Move.{Takes, Begins, Gathers, Passes, Drops, Breaks, Notes, Hears, Fails, Sends, Acts}
-use Rattle.serving.specs.Rule.{IsServing, MayPass, MayOpen, MayMove, told_of, AreAllowed}
+use Rattle.serving.specs.Rule.{IsServing, MayPass, MayOpen, MayUse, MayMove, told_of, AreAllowed}
 use Rattle.serving.specs.Meaning.{AreSo}
 use Rattle.serving.specs.Held.{AreApart}
 use Rattle.serving.proofs.Lists.{find_first, find_other, find_map, held_beside}
-use Rattle.serving.proofs.Standing.{IsOpening, IsDue, IsGoing, Stands}
+use Rattle.serving.proofs.Standing.{IsStarting, IsDue, IsGoing, Stands}
 use Rattle.serving.proofs.Farewells.{served_same}
 use Rattle.serving.proofs.Framing.{held_kept}
-use Rattle.serving.proofs.Closing.{drop_found, found_live, same_live}
+use Rattle.serving.proofs.Closing.{drop_found}
 use Rattle.serving.proofs.Clauses.{all_stand, all_told}
 
 -- ---- entries of other streams
@@ -101,14 +101,30 @@ module _ (known : Known) (t : List Entry) (s : State) (h : Stands known t s) (be
   opens_one : (k route : ℕ) → MayOpen s k route → AllServed known (Did (Open k route) ∷ t) (held_opened s.due k s.held)
   opens_one k route may = subst (λ d. AllServed known (Did (Open k route) ∷ t) (held_opened d k s.held)) (sym may.due) with_it
     where
-      due : IsOpening known t may.stream route may.text may.stage
-      due = subst (IsDue known t s) may.due h.due
+      due : IsStarting known t s.live may.stream route may.text may.stage None
+      due = subst (IsDue known t s.live) may.due h.due
 
       own : is_served known may.stream t ≡ true
       own = ap (λ b. b && is_none (cause known may.stream t)) due.in_time.active ∙ ap is_none due.in_time.no_cause
 
       with_it : AllServed known (Did (Open k route) ∷ t) (held_opened (ToOpen may.stream route may.text may.stage) k s.held)
       with_it stream x found = served_acted known t (Open k route) stream ∙ (elim (eqb_tells may.stream stream) [
+        | inl same ↦ subst (λ n. is_served known n t ≡ true) same.1 own
+        | inr apart ↦ was stream x (sym (held_beside may.stream stream _ s.held apart.1) ∙ found)
+      ])
+
+  -- an idle one is used
+  uses_one : (k : ℕ) (octets : List ℕ) → MayUse s k octets → AllServed known (Did (ToUp k octets) ∷ t) (held_used s.due s.held)
+  uses_one k octets may = subst (λ d. AllServed known (Did (ToUp k octets) ∷ t) (held_used d s.held)) (sym may.due) with_it
+    where
+      due : (route : ℕ) × IsStarting known t s.live may.stream route octets may.stage (Some k)
+      due = subst (IsDue known t s.live) may.due h.due
+
+      own : is_served known may.stream t ≡ true
+      own = ap (λ b. b && is_none (cause known may.stream t)) due.1.in_time.active ∙ ap is_none due.1.in_time.no_cause
+
+      with_it : AllServed known (Did (ToUp k octets) ∷ t) (held_used (ToUse k may.stream octets may.stage) s.held)
+      with_it stream x found = served_acted known t (ToUp k octets) stream ∙ (elim (eqb_tells may.stream stream) [
         | inl same ↦ subst (λ n. is_served known n t ≡ true) same.1 own
         | inr apart ↦ was stream x (sym (held_beside may.stream stream _ s.held apart.1) ∙ found)
       ])
@@ -120,12 +136,15 @@ module _ (known : Known) (t : List Entry) (s : State) (h : Stands known t s) (be
   served_behind before (Passes noted item k old written stage) may is = with_own noted may.1.serving is _
   served_behind before (Drops noted item) may is = with_none noted may.1.serving is
   served_behind before (Breaks breach) may is = λ stream x found. served_breached known t breach stream ∙ was stream x found
-  served_behind before (Notes event) may is = λ stream x found. served_noted known t event stream (ap (λ n. given n (exchanges t)) may.1 ∙ ap (given 0) (none_kept known t h.off h.in_time) ∙ given_zero (opens t) h.numbered) ∙ was stream x found
-  served_behind before (Hears event whole) may is = those_kept (Happened event) s.held is
+  served_behind before (Notes event) may is = λ stream x found. served_noted known t event stream (ap (λ n. given n (exchanges t)) may.1 ∙ zero_given t h.numbered h.goes) ∙ was stream x found
+  served_behind before (Hears event heard) may is = those_kept (Happened event) s.held is
   served_behind before (Fails k) may is = those_kept (entry_of (Fails k)) (map (drop_from k) s.held) is
   served_behind before (Sends noted) may is = those_kept (Sent noted) s.held is
   served_behind before (Acts (Open k route)) may is = opens_one k route may
-  served_behind before (Acts (ToUp k octets)) may is = λ stream x found. served_acted known t (ToUp k octets) stream ∙ was stream x found
+  served_behind before (Acts (ToUp k octets)) may is = elim may [
+    | inl sends ↦ (λ stream x found. served_acted known t (ToUp k octets) stream ∙ was stream x (ap (λ d. held_of stream (held_used d s.held)) (sym sends) ∙ found))
+    | inr used ↦ uses_one k octets used
+  ]
   served_behind before (Acts (Close k)) may is = λ stream x found. served_acted known t (Close k) stream ∙ (let old = drop_found k stream s.held x found in was stream old.0 old.1)
   served_behind before (Acts CloseClient) may is = λ stream x found. absurd (cc)
 
@@ -138,16 +157,18 @@ held_served known (turn ∷ turns) all so =
 -- ---- what is due
 
 -- What is due is due for a stream that is served.
-abbrev pub DueServed : Known → List Entry → List Live → Due → Type 0
+abbrev pub DueServed : Known → List Entry → List Line → Due → Type 0
 DueServed known t ls Nothing = Unit {0}
 DueServed known t ls (ToOpen stream route text stage) = is_served known stream t ≡ true
-DueServed known t ls (ToSend k text) = (l : Live) → live_of k ls ≡ Some l → is_served known l.stream t ≡ true
+DueServed known t ls (ToUse k stream text stage) = is_served known stream t ≡ true
+DueServed known t ls (ToSend k text) = (l : Line) → line_of k ls ≡ Some l → is_served known l.stream t ≡ true
 
 module _ (known : Known) (t : List Entry) (s : State) (h : Stands known t s) (behind : Told) (was : DueServed known t s.live s.due) where
   -- a connection is due for a frame's own stream, or none
-  opens_served : (noted : Noted) → IsServing behind noted → IsTold known (Came noted ∷ t) behind → (ls : List Live) (goes : Bool) (route : ℕ) (text : List ℕ) (stage : Stage) → DueServed known (Came noted ∷ t) ls (to_open goes noted.frame.id route text stage)
-  opens_served noted serving is_behind ls true route text stage = sym (is_behind.served noted.frame.id) ∙ serving.served
-  opens_served noted serving is_behind ls false route text stage = tt
+  opens_served : (noted : Noted) → IsServing behind noted → IsTold known (Came noted ∷ t) behind → (ls : List Line) (goes : Bool) (idle : Option ℕ) (route : ℕ) (text : List ℕ) (stage : Stage) → DueServed known (Came noted ∷ t) ls (to_open goes idle noted.frame.id route text stage)
+  opens_served noted serving is_behind ls true None route text stage = sym (is_behind.served noted.frame.id) ∙ serving.served
+  opens_served noted serving is_behind ls true (Some k) route text stage = sym (is_behind.served noted.frame.id) ∙ serving.served
+  opens_served noted serving is_behind ls false idle route text stage = tt
 
   -- a request goes out on its stream's connection
   passes_served : (noted : Noted) (item : Item) (k : ℕ) (old : Stage) (written : List ℕ) (stage : Stage) → MayPass behind s noted item k old written stage → IsTold known (Came noted ∷ t) behind → DueServed known (Came noted ∷ t) s.live (to_send k written)
@@ -156,11 +177,11 @@ module _ (known : Known) (t : List Entry) (s : State) (h : Stands known t s) (be
       w : IsGoing known t s noted.frame.id k old
       w = h.held noted.frame.id (record { id = noted.frame.id; way = Going k old }) may.found
 
-      on_it : (l : Live) → live_of k s.live ≡ Some l → is_served known l.stream (Came noted ∷ t) ≡ true
+      on_it : (l : Line) → line_of k s.live ≡ Some l → is_served known l.stream (Came noted ∷ t) ≡ true
       on_it l found =
-          let it = found_live known t s h k l found in
-          let same : l.stream ≡ noted.frame.id =
-          ap (λ (x : Live). x.stream) (sym (same_live known t s h k l found)) ∙ it.3.same ∙ ap (λ (o : Opened). o.stream) (one_number (opens t) it.0 w.o h.numbered it.1 w.given.is_opened (it.2 ∙ sym w.number)) ∙ w.given.is_given in
+          let both : Some w.line.0 ≡ Some l = sym w.line.1 ∙ found in
+          let is : w.line.0 ≡ l = cc in
+          let same : l.stream ≡ noted.frame.id = ap (λ (x : Line). x.stream) (sym is) ∙ w.line.2 in
           subst (λ n. is_served known n (Came noted ∷ t) ≡ true) (sym same) (sym (is_behind.served noted.frame.id) ∙ may.serving.served)
 
       by : (octets : List ℕ) → DueServed known (Came noted ∷ t) s.live (to_send k octets)
@@ -171,35 +192,36 @@ module _ (known : Known) (t : List Entry) (s : State) (h : Stands known t s) (be
   opened_served : (k route : ℕ) → MayOpen s k route → DueServed known (Did (Open k route) ∷ t) (live_acted s.live s.due (Open k route)) (due_opened s.due k)
   opened_served k route may = subst (λ d. DueServed known (Did (Open k route) ∷ t) (live_acted s.live d (Open k route)) (due_opened d k)) (sym may.due) with_it
     where
-      due : IsOpening known t may.stream route may.text may.stage
-      due = subst (IsDue known t s) may.due h.due
+      due : IsStarting known t s.live may.stream route may.text may.stage None
+      due = subst (IsDue known t s.live) may.due h.due
 
-      with_it : (l : Live) → live_of k (record { k = k; stream = may.stream; whole = false } ∷ s.live) ≡ Some l → is_served known l.stream (Did (Open k route) ∷ t) ≡ true
+      with_it : (l : Line) → line_of k (lines_opened k route may.stream s.live) ≡ Some l → is_served known l.stream (Did (Open k route) ∷ t) ≡ true
       with_it l found =
-          let new : Live = record { k = k; stream = may.stream; whole = false } in
+          let new : Line = record { k = k; route = route; stream = may.stream; answer = Pending } in
           let both : Some new ≡ Some l = sym (find_first k_of k new s.live refl) ∙ found in
           let is : new ≡ l = cc in
-          subst (λ (x : Live). is_served known x.stream (Did (Open k route) ∷ t) ≡ true) is
+          subst (λ (x : Line). is_served known x.stream (Did (Open k route) ∷ t) ≡ true) is
           (served_acted known t (Open k route) may.stream ∙ (ap (λ b. b && is_none (cause known may.stream t)) due.in_time.active ∙ ap is_none due.in_time.no_cause))
 
-  nothing_served : (e : Entry) (ls : List Live) (due : Due) → due ≡ Nothing → DueServed known (e ∷ t) ls due
+  nothing_served : (e : Entry) (ls : List Line) (due : Due) → due ≡ Nothing → DueServed known (e ∷ t) ls due
   nothing_served e ls due none = subst (DueServed known (e ∷ t) ls) (sym none) tt
 
   -- a farewell changes no stream
   still_served : (noted : Noted) → noted.frame.kind ≡ goaway_kind → (due : Due) → DueServed known t s.live due → DueServed known (Sent noted ∷ t) s.live due
   still_served noted farewell Nothing is = tt
   still_served noted farewell (ToOpen stream route text stage) is = served_same known t noted farewell stream ∙ is
+  still_served noted farewell (ToUse k stream text stage) is = served_same known t noted farewell stream ∙ is
   still_served noted farewell (ToSend k text) is = λ l found. served_same known t noted farewell l.stream ∙ is l found
 
-  due_served_behind : (before : Told) (m : Move) → MayMove known.setup before behind s m → IsTold known (entry_of m ∷ t) behind → DueServed known (entry_of m ∷ t) (live_after s.live s.due m) (due_after known.setup s.due m)
+  due_served_behind : (before : Told) (m : Move) → MayMove known.setup before behind s m → IsTold known (entry_of m ∷ t) behind → DueServed known (entry_of m ∷ t) (live_after s.live s.due m) (due_after known.setup s.live s.due m)
   due_served_behind before (Takes noted) may is = nothing_served (Came noted) _ s.due may.nothing
-  due_served_behind before (Begins noted head ended route text stage) may is = opens_served noted may.1.serving is s.live (goes_now known.setup stage) route text stage
-  due_served_behind before (Gathers noted item route text old body written stage) may is = opens_served noted may.1.serving is s.live (is_whole stage) route (text ++ written) stage
+  due_served_behind before (Begins noted head ended route text stage) may is = opens_served noted may.1.serving is s.live (goes_now known.setup stage) (least_idle route s.live) route text stage
+  due_served_behind before (Gathers noted item route text old body written stage) may is = opens_served noted may.1.serving is s.live (is_whole stage) (least_idle route s.live) route (text ++ written) stage
   due_served_behind before (Passes noted item k old written stage) may is = passes_served noted item k old written stage may.1 is
   due_served_behind before (Drops noted item) may is = nothing_served (Came noted) _ s.due may.0.nothing
   due_served_behind before (Breaks breach) may is = nothing_served (Breached breach) _ s.due may.nothing
   due_served_behind before (Notes event) may is = nothing_served (Happened event) _ s.due may.0.nothing
-  due_served_behind before (Hears event whole) may is = nothing_served (Happened event) _ s.due may.0.nothing
+  due_served_behind before (Hears event heard) may is = nothing_served (Happened event) _ s.due may.0.nothing
   due_served_behind before (Fails k) may is = nothing_served (entry_of (Fails k)) _ s.due may.0.nothing
   due_served_behind before (Sends noted) may is = elim may [
     | inl nothing ↦ nothing_served (Sent noted) _ s.due nothing
@@ -238,7 +260,7 @@ none_behind_close known (turn ∷ turns) all so closed = by turn.move all.1.may 
     by (Drops noted item) may shut = absurd (going shut)
     by (Breaks breach) may shut = absurd (going shut)
     by (Notes event) may shut = absurd (going shut)
-    by (Hears event whole) may shut = absurd (going shut)
+    by (Hears event heard) may shut = absurd (going shut)
     by (Fails k) may shut = absurd (going shut)
     by (Sends noted) may shut = absurd (going shut)
 
@@ -283,7 +305,14 @@ apart_dropped k hs apart = apart_changed (drop_from k) (λ x. refl) hs apart
 apart_opened : (due : Due) (k : ℕ) (hs : List Held) → AreApart hs → AreApart (held_opened due k hs)
 apart_opened Nothing k hs apart = apart
 apart_opened (ToOpen stream route text stage) k hs apart = apart_with stream _ hs apart
+apart_opened (ToUse j stream text stage) k hs apart = apart
 apart_opened (ToSend j text) k hs apart = apart
+
+apart_used : (due : Due) (hs : List Held) → AreApart hs → AreApart (held_used due hs)
+apart_used Nothing hs apart = apart
+apart_used (ToOpen stream route text stage) hs apart = apart
+apart_used (ToUse k stream text stage) hs apart = apart_with stream _ hs apart
+apart_used (ToSend k text) hs apart = apart
 
 apart_behind : (setup : Setup) (behind : Told) (s : State) (m : Move) → AreApart s.held → AreApart (held_after setup behind s.held s.due m)
 apart_behind setup behind s (Takes noted) apart = apart_kept behind s.held apart
@@ -293,11 +322,11 @@ apart_behind setup behind s (Passes noted item k old written stage) apart = apar
 apart_behind setup behind s (Drops noted item) apart = apart
 apart_behind setup behind s (Breaks breach) apart = apart
 apart_behind setup behind s (Notes event) apart = apart
-apart_behind setup behind s (Hears event whole) apart = apart_kept behind s.held apart
+apart_behind setup behind s (Hears event heard) apart = apart_kept behind s.held apart
 apart_behind setup behind s (Fails k) apart = apart_kept behind (map (drop_from k) s.held) (apart_dropped k s.held apart)
 apart_behind setup behind s (Sends noted) apart = apart_kept behind s.held apart
 apart_behind setup behind s (Acts (Open k route)) apart = apart_opened s.due k s.held apart
-apart_behind setup behind s (Acts (ToUp k octets)) apart = apart
+apart_behind setup behind s (Acts (ToUp k octets)) apart = apart_used s.due s.held apart
 apart_behind setup behind s (Acts (Close k)) apart = apart_dropped k s.held apart
 apart_behind setup behind s (Acts CloseClient) apart = tt
 

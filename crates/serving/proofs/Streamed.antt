@@ -1,11 +1,11 @@
--- Where nothing is due, what each connection was sent is all that was written for it, and requests that aren't whole are passed on as
+-- Where nothing is due, what each exchange was sent is all that was written for it, and requests that aren't whole are passed on as
 -- they come.
 use Rattle.std.proofs.Common.{◌≡◌, false, List, sym, ap, ◌∙◌, subst, inl, inr, append-nil}
 use Rattle.std.specs.List.{list_any}
 use Rattle.model.specs.Messages.{ends_with}
 use Rattle.model.specs.Http2.{body_of}
-use Rattle.model.specs.Tapes.{Entry, sent_up}
-use Rattle.model.specs.Openings.{Opened, opens}
+use Rattle.model.specs.Tapes.{Entry}
+use Rattle.model.specs.Openings.{Opened, exchanges, sent_for}
 use Rattle.model.specs.Available.{IsIn}
 use Rattle.model.specs.Known.{Known}
 use Rattle.model.specs.Courses.{items}
@@ -14,14 +14,12 @@ use Rattle.serving.specs.State.{State}
 use Rattle.serving.specs.State.Due.{Nothing}
 use Rattle.serving.proofs.Texts.{none_end}
 use Rattle.serving.proofs.Coming.{has_come}
-use Rattle.model.proofs.AloneLaws.{sent_is}
-use Rattle.model.proofs.ExchangeLaws.{none_kept}
 use Rattle.serving.proofs.Standing.{text_of, IsSent, IsDueFor, Stands}
 
 module _ (known : Known) (t : List Entry) (s : State) (h : Stands known t s) (nothing : s.due ≡ Nothing) where
   -- nothing is due, so what was sent is all
-  pub sent_all : (o : Opened) → IsIn o (opens t) → IsSent known t (sent_up o.k t) o
-  sent_all o i = subst (λ x. IsSent known t x o) (ap (text_of o.k t) nothing ∙ append-nil (sent_up o.k t)) (h.given o i).sent
+  pub sent_all : (o : Opened) → IsIn o (exchanges t) → IsSent known t (sent_for o t) o
+  sent_all o i = subst (λ x. IsSent known t x o) (ap (text_of o t) nothing ∙ append-nil (sent_for o t)) (h.given o i).sent
 
   -- where requests are passed on as they come, all that came is there
   pub all_streamed : AllStreamed known t
@@ -31,12 +29,11 @@ module _ (known : Known) (t : List Entry) (s : State) (h : Stands known t s) (no
       | inl due ↦ absurd (subst (λ d. IsDueFor d stream) nothing due)
       | inr g ↦ record {
         o = g.0;
-        given = record { is_opened = subst (IsIn g.0) (sym (none_kept known t h.off h.in_time)) g.1.is_opened; is_given = g.1.is_given };
+        given = record { is_opened = g.1.is_opened; is_given = g.1.is_given };
         has_come = λ opened.
             let w = (sent_all g.0 g.1.is_opened).writes opened in
-            subst (λ x. HasCome x (body_of (items known stream t))) (sent_is known t h.off h.numbered h.apart h.in_time h.goes g.0 g.1.is_opened)
-            (subst (λ n. HasCome (sent_up g.0.k t) (body_of (items known n t))) g.1.is_given
-            (has_come (items known g.0.stream t) (sent_up g.0.k t) w.0 w.1 (λ whole. none_end (items known g.0.stream t) (subst (λ n. list_any ends_with (items known n t) ≡ false) (sym g.1.is_given) goes_on) (w.1.ends whole))));
+            subst (λ n. HasCome (sent_for g.0 t) (body_of (items known n t))) g.1.is_given
+            (has_come known.setup.keep (items known g.0.stream t) (sent_for g.0 t) w.0 w.1 (λ whole. none_end (items known g.0.stream t) (subst (λ n. list_any ends_with (items known n t) ≡ false) (sym g.1.is_given) goes_on) (w.1.ends whole)));
       }
     ])
   ]

@@ -1,6 +1,6 @@
 -- A worked run, where requests are passed on as they come: the head of a POST goes out on a connection of its own, then the first octets
 -- of its body. The upstream answers before the rest has come, which is dropped then.
-use Rattle.std.proofs.Common.{◌≡◌, true, false, List, [], ◌∷◌, refl, sym, subst, inl, inr, arith}
+use Rattle.std.proofs.Common.{◌≡◌, true, false, List, [], ◌∷◌, refl, inl, arith}
 use Rattle.std.specs.Prelude.{codes}
 use Rattle.model.specs.Tables.{total_size}
 use Rattle.model.specs.Messages.Item.{Content}
@@ -8,8 +8,7 @@ use Rattle.model.specs.Setup.Passing.{Streaming}
 use Rattle.model.specs.Logs.Event.{Up}
 use Rattle.model.specs.Logs.Act.{Open, ToUp, Close}
 use Rattle.model.specs.Tapes.Entry.{Happened}
-use Rattle.model.specs.Openings.{Opened, opens}
-use Rattle.model.specs.Available.{IsIn}
+use Rattle.model.specs.Openings.{exchange_on}
 use Rattle.model.specs.Known.{Known}
 use Rattle.model.proofs.AnswerTexts.{answer, response, answered}
 use Rattle.h1_writer.specs.Sending.{chunk_text}
@@ -17,7 +16,9 @@ use Rattle.h1_writer.specs.Sending.Stage.{Chunking}
 use Rattle.serving.specs.State.{state_of, Turn, tape_of}
 use Rattle.serving.specs.State.Move.{Begins, Passes, Drops, Hears, Acts}
 use Rattle.serving.specs.Rule.{AreAllowed}
-use Rattle.model.specs.Idle.{IsAllHeard}
+use Rattle.serving.specs.Pool.{Verdict}
+use Rattle.serving.specs.Lines.Answer.{Pending, Done}
+use Rattle.serving.specs.Lines.Heard.{Finished}
 use Rattle.serving.specs.Meaning.{AreSo, KeepClauses}
 use Rattle.serving.specs.Held.{held_for}
 use Rattle.serving.proofs.Telling.{told_by}
@@ -37,7 +38,7 @@ abbrev s3 : List Turn
 s3 = turn (Acts (ToUp 1 (chunk_text (codes "he")))) (1 ∷ []) ∷ turn (Passes first_data (Content (codes "he") false) 1 Chunking (chunk_text (codes "he")) Chunking) (1 ∷ []) ∷ s2
 
 b1 : AreAllowed streaming.setup m1
-b1 = (((refl, record { open_yet = refl; may = inl refl }), record { open_yet = refl; may = calm _ _ refl refl refl }), record { open_yet = refl; may = inl refl })
+b1 = (((tt, record { open_yet = refl; may = inl refl }), record { open_yet = refl; may = calm _ _ refl refl refl }), record { open_yet = refl; may = inl refl })
 
 b2 : AreAllowed streaming.setup s2
 b2 = (
@@ -45,13 +46,13 @@ b2 = (
     (b1, record { open_yet = refl; may = (calm _ _ refl refl refl, record { serving = serving_on _ _ (omega arith) refl refl; by_route = first_route; sending = post_begun; whole = refl }) }),
     record { open_yet = refl; may = record { stream = 1; text = post_text []; stage = Chunking; due = refl; next = refl } },
   ),
-  record { open_yet = refl; may = refl },
+  record { open_yet = refl; may = inl refl },
 )
 
 b3 : AreAllowed streaming.setup s3
 b3 = (
   (b2, record { open_yet = refl; may = (calm _ _ refl refl refl, record { serving = serving_on _ _ (omega arith) refl refl; found = refl; continues = chunk_goes (codes "he") (omega arith); whole = refl }) }),
-  record { open_yet = refl; may = refl },
+  record { open_yet = refl; may = inl refl },
 )
 
 t1 : AreSo streaming m1
@@ -79,24 +80,23 @@ t3 = (
 
 -- the upstream answers before the request is whole, and its connection is closed
 abbrev s4 : List Turn
-s4 = turn (Acts (Close 1)) (1 ∷ []) ∷ turn (Hears (Up 1 answer) true) (1 ∷ []) ∷ s3
+s4 = turn (Acts (Close 1)) (1 ∷ []) ∷ turn (Hears (Up 1 answer) Finished) (1 ∷ []) ∷ s3
 
 b4 : AreAllowed streaming.setup s4
 b4 = (
-  (b3, record { open_yet = refl; may = (calm _ _ refl refl refl, tt, (record { k = 1; stream = 1; whole = false }, refl)) }),
-  record { open_yet = refl; may = record { nothing = refl; live = record { k = 1; stream = 1; whole = true }; found = refl; why = inl refl } },
+  (b3, record { open_yet = refl; may = (calm _ _ refl refl refl, tt, (record { k = 1; route = 0; stream = 1; answer = Pending }, refl)) }),
+  record { open_yet = refl; may = record { nothing = refl; line = record { k = 1; route = 0; stream = 1; answer = Done }; found = refl; why = inl refl } },
 )
 
--- what came is a whole response
-all_heard : (o : Opened) → IsIn o (opens (tape_of s3)) → IsAllHeard streaming (Happened (Up 1 answer) ∷ tape_of s3) o
+-- what came is a whole response, and no connection is kept
+all_heard : Verdict streaming (Happened (Up 1 answer) ∷ tape_of s3) (exchange_on 1 (tape_of s3)) Finished
 unfolding total_size
-all_heard o (inl is) = subst (IsAllHeard streaming (Happened (Up 1 answer) ∷ tape_of s3)) (sym is) (response, answered)
-all_heard o (inr i) = absurd i
+all_heard = ((response, answered), λ m. let clash : false ≡ true = m.keeps in cc)
 
 t4 : AreSo streaming s4
 unfolding total_size
 t4 = (
-  (t3, λ o i k. all_heard o i, told_by streaming _ (1 ∷ []) (refl, tt) refl refl refl),
+  (t3, all_heard, told_by streaming _ (1 ∷ []) (refl, tt) refl refl refl),
   tt,
   told_by streaming _ (1 ∷ []) (refl, tt) refl refl refl,
 )

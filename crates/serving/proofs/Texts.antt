@@ -1,5 +1,5 @@
 -- What a text that was written means: the whole request, or a part of it.
-use Rattle.std.proofs.Common.{◌≡◌, ℕ, ◌+◌, true, false, ◌||◌, List, [], ◌∷◌, ◌++◌, length, refl, sym, ap, ◌∙◌, subst, append-nil, arith, inl, inr, length-append}
+use Rattle.std.proofs.Common.{◌≡◌, ℕ, ◌+◌, Bool, true, false, ◌||◌, List, [], ◌∷◌, ◌++◌, length, refl, sym, ap, ◌∙◌, subst, append-nil, arith, inl, inr, length-append}
 use Rattle.std.specs.Prelude.{◌⊎◌, replicate}
 use Rattle.std.specs.List.{concat, list_any}
 use Rattle.std.proofs.lemmas.Bool.{cases_Bool}
@@ -7,7 +7,7 @@ use Rattle.std.proofs.lemmas.List.{length-replicate}
 use Rattle.model.specs.Octets.{IsFront}
 use Rattle.model.specs.Messages.{Field, Request, Item, ends_with}
 use Rattle.model.specs.Messages.Item.{Block, Content}
-use Rattle.model.specs.Http1.{H1Request, H1Requests, forward}
+use Rattle.model.specs.Http1.{H1Request, H1Requests, H1Kept, forward}
 use Rattle.model.specs.Http2.{HasHead, HasLength, body_of, declared_length, request_of, first_block, trailers_of, passed_trailers, EndsWithLast, H2Request}
 use Rattle.serving.proofs.Standing.{IsSentWhole, IsSentInPart}
 use Rattle.request_rules.specs.Heads.{parts_of, IsRequestHead}
@@ -75,7 +75,7 @@ one_ends items ends = elim (cases_Bool (list_any ends_with items)) [ inl one ↦
 pub no_request : (items : List Item) (request : Request) → list_any ends_with items ≡ false → H2Request items request → ⊥
 no_request items request none means = none_end items none means.ends
 
-module _ (items : List Item) (text : List ℕ) (stage : Stage) (w : IsWritten items text stage) where
+module _ (keep : Bool) (items : List Item) (text : List ℕ) (stage : Stage) (w : IsWritten keep items text stage) where
   right : IsRequestHead (parts_of w.head)
   right = record { head = w.head; well_formed = w.well_formed; no_connect = w.no_connect; is = refl }
 
@@ -91,16 +91,16 @@ module _ (items : List Item) (text : List ℕ) (stage : Stage) (w : IsWritten it
 
   -- ---- whole
 
-  length_whole : Sending false (parts_of w.head) w.ended text w.pieces (passed_trailers (first_block w.more)) Whole → HasLength (declared_length w.head) (concat w.pieces)
+  length_whole : Sending keep (parts_of w.head) w.ended text w.pieces (passed_trailers (first_block w.more)) Whole → HasLength (declared_length w.head) (concat w.pieces)
   length_whole s = s.has_length
 
   trailers_are : trailers_of items ≡ first_block w.more
   trailers_are = ap trailers_of w.is
 
-  pub sent_whole : stage ≡ Whole → IsSentWhole text items
+  pub sent_whole : stage ≡ Whole → IsSentWhole keep text items
   sent_whole e =
-      let s : Sending false (parts_of w.head) w.ended text w.pieces (passed_trailers (first_block w.more)) Whole = subst (λ x. Sending false (parts_of w.head) w.ended text w.pieces (passed_trailers (first_block w.more)) x) e w.sending in
-      let reads : H1Request text (forward (request_of w.head (concat w.pieces) (first_block w.more))) = whole_read false (parts_of w.head) w.ended text w.pieces (first_block w.more) right (trailers_well w.more w.contents) s in
+      let s : Sending keep (parts_of w.head) w.ended text w.pieces (passed_trailers (first_block w.more)) Whole = subst (λ x. Sending keep (parts_of w.head) w.ended text w.pieces (passed_trailers (first_block w.more)) x) e w.sending in
+      let reads : H1Kept keep text (forward (request_of w.head (concat w.pieces) (first_block w.more))) = whole_read keep (parts_of w.head) w.ended text w.pieces (first_block w.more) right (trailers_well w.more w.contents) s in
       record {
         request = request_of w.head (body_of items) (trailers_of items);
         means = record {
@@ -113,22 +113,21 @@ module _ (items : List Item) (text : List ℕ) (stage : Stage) (w : IsWritten it
           length_holds = subst (λ b. HasLength (declared_length w.head) b) (sym body_is) (length_whole s);
           is = refl;
         };
-        reads = one_request_text text (forward (request_of w.head (body_of items) (trailers_of items)))
-            (subst (λ l. H1Request text (forward (request_of w.head (body_of items) l))) (sym trailers_are) (subst (λ b. H1Request text (forward (request_of w.head b (first_block w.more)))) (sym body_is) reads));
+        reads = subst (λ l. H1Kept keep text (forward (request_of w.head (body_of items) l))) (sym trailers_are) (subst (λ b. H1Kept keep text (forward (request_of w.head b (first_block w.more)))) (sym body_is) reads);
       }
 
   -- ---- in part
 
   -- octets that make the body as long as declared
-  filled : (stage : Stage) → Sending false (parts_of w.head) w.ended text w.pieces [] stage → (stage ≡ Whole → ⊥) → (more : List ℕ) × HasLength (declared_length w.head) (concat w.pieces ++ more)
+  filled : (stage : Stage) → Sending keep (parts_of w.head) w.ended text w.pieces [] stage → (stage ≡ Whole → ⊥) → (more : List ℕ) × HasLength (declared_length w.head) (concat w.pieces ++ more)
   filled Whole s part = absurd (part refl)
   filled (Counting left) s part = (replicate left 0, subst (λ d. HasLength d (concat w.pieces ++ replicate left 0)) (sym s.declared) (length-append (concat w.pieces) (replicate left 0) ∙ ap (λ n. length (concat w.pieces) + n) (length-replicate left 0)))
   filled (Holding octet) s part = ([], subst (λ d. HasLength d (concat w.pieces ++ [])) (sym s.declared) (ap length (append-nil (concat w.pieces))))
   filled Chunking s part = ([], subst (λ d. HasLength d (concat w.pieces ++ [])) (sym s.undeclared) tt)
 
-  pub sent_in_part : (stage ≡ Whole → ⊥) → IsSentInPart text items
+  pub sent_in_part : (stage ≡ Whole → ⊥) → IsSentInPart keep text items
   sent_in_part part =
-      let sends = bare items text stage w part in
+      let sends = bare keep items text stage w part in
       let more = filled stage sends part in
       let body : List ℕ = concat w.pieces ++ more.0 in
       record {
@@ -136,19 +135,19 @@ module _ (items : List Item) (text : List ℕ) (stage : Stage) (w : IsWritten it
           request_of w.head body [],
           record { head = w.head; has_head = has_head; begun = record { rest = more.0; is = ap (λ b. b ++ more.0) (sym body_is) }; length_holds = more.1; trailers = []; well_formed = no_trailers; is = refl },
         );
-        reads = record { front = []; is = refl; are_requests = refl; no_more = unfinished_none false (parts_of w.head) w.ended text w.pieces stage right sends part };
+        reads = record { front = []; is = refl; are_requests = refl; no_more = unfinished_none keep (parts_of w.head) w.ended text w.pieces stage right sends part };
         goes_on = λ request may.
             let same : w.head ≡ may.head = one_head may.head may.has_head in
-            let goes : GoesOnTo false (parts_of w.head) text request.body (passed_trailers may.trailers) =
-            unfinished_front false (parts_of w.head) w.ended text w.pieces stage request.body may.trailers right may.well_formed sends part
+            let goes : GoesOnTo keep (parts_of w.head) text request.body (passed_trailers may.trailers) =
+            unfinished_front keep (parts_of w.head) w.ended text w.pieces stage request.body may.trailers right may.well_formed sends part
             (subst (λ b. IsFront b request.body) body_is may.begun) (subst (λ h. HasLength (declared_length h) request.body) (sym same) may.length_holds) in
             let is : request_of w.head request.body may.trailers ≡ request = ap (λ h. request_of h request.body may.trailers) same ∙ sym may.is in
-            (goes.whole, subst (λ r. H1Request goes.whole (forward r)) is goes.reads, goes.is_front);
-        in_chunks = come_in_chunks text (body_of items) (has_come items text stage w part);
+            (goes.whole, subst (λ r. H1Kept keep goes.whole (forward r)) is goes.reads, goes.is_front);
+        in_chunks = come_in_chunks text (body_of items) (has_come keep items text stage w part);
       }
 
   -- either of them
-  pub sent_either : IsSentWhole text items ⊎ (IsSentInPart text items × (list_any ends_with items ≡ false))
+  pub sent_either : IsSentWhole keep text items ⊎ (IsSentInPart keep text items × (list_any ends_with items ≡ false))
   sent_either = elim (cases_stage stage) [
     | inl whole ↦ inl (sent_whole whole)
     | inr part ↦ inr (sent_in_part part, w.goes_on part)

@@ -1,5 +1,5 @@
 -- What of a request's trailers is written, and how long their lines are.
-use Rattle.std.proofs.Common.{◌≡◌, ℕ, ◌+◌, ◌≤◌, Bool, true, false, List, [], ◌∷◌, ◌++◌, filter, length, length-append, refl, sym, ap, ◌∙◌, subst, arith}
+use Rattle.std.proofs.Common.{◌≡◌, ℕ, ◌+◌, ◌≤◌, Bool, true, false, List, [], ◌∷◌, ◌++◌, filter, length, length-append, refl, subst, arith}
 use Rattle.std.specs.Prelude.{if◌then◌else◌}
 use Rattle.std.specs.List.{list_all}
 use Rattle.model.specs.Messages.{Field, Item}
@@ -36,8 +36,8 @@ trailers_well (Content octets ends ∷ items) a = trailers_well items a
 trailers_well (Block fields ends ∷ items) a = a.0
 
 -- a text that isn't whole has no trailers yet
-pub bare : (items : List Item) (text : List ℕ) (stage : Stage) (w : IsWritten items text stage) → (stage ≡ Whole → ⊥) → Sending false (parts_of w.head) w.ended text w.pieces [] stage
-bare items text stage w part = subst (λ (fields : List Field). Sending false (parts_of w.head) w.ended text w.pieces (passed_trailers fields) stage) (none_in_contents w.more (w.plain part)) w.sending
+pub bare : (keep : Bool) (items : List Item) (text : List ℕ) (stage : Stage) (w : IsWritten keep items text stage) → (stage ≡ Whole → ⊥) → Sending keep (parts_of w.head) w.ended text w.pieces [] stage
+bare keep items text stage w part = subst (λ (fields : List Field). Sending keep (parts_of w.head) w.ended text w.pieces (passed_trailers fields) stage) (none_in_contents w.more (w.plain part)) w.sending
 
 -- ---- how long lines are
 

@@ -60,8 +60,8 @@ octets_are (Block fields ends) = refl
 -- ---- what is written
 
 -- A head is written: it is whole where it ends the stream.
-pub begins : (head : List Field) (ended : Bool) (text : List ℕ) (stage : Stage) → WellFormedHead head → is_connect head ≡ false → Sending false (parts_of head) ended text [] [] stage → (stage ≡ Whole → ended ≡ true) → ((stage ≡ Whole → ⊥) → ended ≡ false) → IsWritten (Block head ended ∷ []) text stage
-begins head ended text stage well_formed no_connect sending whole part = record {
+pub begins : (keep : Bool) (head : List Field) (ended : Bool) (text : List ℕ) (stage : Stage) → WellFormedHead head → is_connect head ≡ false → Sending keep (parts_of head) ended text [] [] stage → (stage ≡ Whole → ended ≡ true) → ((stage ≡ Whole → ⊥) → ended ≡ false) → IsWritten keep (Block head ended ∷ []) text stage
+begins keep head ended text stage well_formed no_connect sending whole part = record {
   head = head;
   ended = ended;
   more = [];
@@ -78,9 +78,9 @@ begins head ended text stage well_formed no_connect sending whole part = record 
 }
 
 -- An item is added: octets, or trailers; it is whole where that ends the stream.
-pub adds : (items : List Item) (text : List ℕ) (stage : Stage) (item : Item) (written : List ℕ) (new : Stage) → IsWritten items text stage → (stage ≡ Whole → ⊥) → Continues stage written (octets_of item) (trailers_in item) new → (new ≡ Whole → ends_with item ≡ true) → ((new ≡ Whole → ⊥) → (is_content item ≡ true) × (ends_with item ≡ false)) → AreContents (item ∷ [])
-    → IsWritten (items ++ item ∷ []) (text ++ written) new
-adds items text stage item written new w part continues whole goes are = record {
+pub adds : (keep : Bool) (items : List Item) (text : List ℕ) (stage : Stage) (item : Item) (written : List ℕ) (new : Stage) → IsWritten keep items text stage → (stage ≡ Whole → ⊥) → Continues stage written (octets_of item) (trailers_in item) new → (new ≡ Whole → ends_with item ≡ true) → ((new ≡ Whole → ⊥) → (is_content item ≡ true) × (ends_with item ≡ false)) → AreContents (item ∷ [])
+    → IsWritten keep (items ++ item ∷ []) (text ++ written) new
+adds keep items text stage item written new w part continues whole goes are = record {
   head = w.head;
   ended = w.ended;
   more = w.more ++ item ∷ [];
@@ -88,8 +88,8 @@ adds items text stage item written new w part continues whole goes are = record 
   is = ap (λ xs. xs ++ item ∷ []) w.is;
   well_formed = w.well_formed;
   no_connect = w.no_connect;
-  sending = subst (λ (fields : List Field). Sending false (parts_of w.head) w.ended (text ++ written) (w.pieces ++ piece_of (octets_of item)) fields new) (sym (trailers_behind_contents w.more item (w.plain part)))
-      (continues false (parts_of w.head) w.ended text w.pieces (bare items text stage w part));
+  sending = subst (λ (fields : List Field). Sending keep (parts_of w.head) w.ended (text ++ written) (w.pieces ++ piece_of (octets_of item)) fields new) (sym (trailers_behind_contents w.more item (w.plain part)))
+      (continues keep (parts_of w.head) w.ended text w.pieces (bare keep items text stage w part));
   body = concat_more w.pieces (octets_of item) ∙ ap (λ b. b ++ octets_of item) w.body ∙ ap (λ b. body_of w.more ++ b) (sym (octets_are item)) ∙ sym (body_append w.more (item ∷ []));
   contents = contents_append w.more (item ∷ []) (w.plain part) are;
   ends = λ e. ends_append items item (w.goes_on part) (whole e);
@@ -98,28 +98,28 @@ adds items text stage item written new w part continues whole goes are = record 
 }
 
 -- the octets of a body that waits, with those of an item more
-body_more : (items : List Item) (text : List ℕ) (stage : Stage) (body : List ℕ) → (w : IsAwaited items text stage body) → (item : Item) → body ++ octets_of item ≡ body_of (w.more ++ item ∷ [])
-body_more items text stage body w item = ap (λ b. b ++ octets_of item) w.body_is ∙ ap (λ b. body_of w.more ++ b) (sym (octets_are item)) ∙ sym (body_append w.more (item ∷ []))
+body_more : (keep : Bool) (items : List Item) (text : List ℕ) (stage : Stage) (body : List ℕ) → (w : IsAwaited keep items text stage body) → (item : Item) → body ++ octets_of item ≡ body_of (w.more ++ item ∷ [])
+body_more keep items text stage body w item = ap (λ b. b ++ octets_of item) w.body_is ∙ ap (λ b. body_of w.more ++ b) (sym (octets_are item)) ∙ sym (body_append w.more (item ∷ []))
 
 -- A head that is good is written.
-pub head_written : (setup : Setup) (head : List Field) (ended : Bool) (text : List ℕ) (stage : Stage) → IsGood setup (carried_by [] false) (Block head ended) → Sending false (parts_of head) ended text [] [] stage → is_whole stage ≡ ended → IsWritten (Block head ended ∷ []) text stage
+pub head_written : (setup : Setup) (head : List Field) (ended : Bool) (text : List ℕ) (stage : Stage) → IsGood setup (carried_by [] false) (Block head ended) → Sending setup.keep (parts_of head) ended text [] [] stage → is_whole stage ≡ ended → IsWritten setup.keep (Block head ended ∷ []) text stage
 head_written setup head ended text stage good sending whole =
     let taken = head_taken setup head ended good.0 good.1 in
-    begins head ended text stage taken.well_formed taken.no_connect sending (λ e. sym whole ∙ ap is_whole e) (λ part. sym whole ∙ part_tells stage part)
+    begins setup.keep head ended text stage taken.well_formed taken.no_connect sending (λ e. sym whole ∙ ap is_whole e) (λ part. sym whole ∙ part_tells stage part)
 
 -- An item that is good is added.
-pub item_written : (setup : Setup) (items : List Item) (text : List ℕ) (stage : Stage) (item : Item) (written : List ℕ) (new : Stage) → IsWritten items text stage → is_whole stage ≡ false → IsGood setup (carried_by items false) item → Continues stage written (octets_of item) (trailers_in item) new → is_whole new ≡ ends_with item
-    → IsWritten (items ++ item ∷ []) (text ++ written) new
+pub item_written : (setup : Setup) (items : List Item) (text : List ℕ) (stage : Stage) (item : Item) (written : List ℕ) (new : Stage) → IsWritten setup.keep items text stage → is_whole stage ≡ false → IsGood setup (carried_by items false) item → Continues stage written (octets_of item) (trailers_in item) new → is_whole new ≡ ends_with item
+    → IsWritten setup.keep (items ++ item ∷ []) (text ++ written) new
 item_written setup items text stage (Content octets ends) written new w part good continues whole =
-    adds items text stage (Content octets ends) written new w (part_told stage part) continues (λ e. sym whole ∙ ap is_whole e) (λ p. (refl, sym whole ∙ part_tells new p)) tt
+    adds setup.keep items text stage (Content octets ends) written new w (part_told stage part) continues (λ e. sym whole ∙ ap is_whole e) (λ p. (refl, sym whole ∙ part_tells new p)) tt
 item_written setup items text stage (Block fields ends) written new w part good continues whole =
-    let fits = trailers_fit items text stage w (part_told stage part) fields ends good.1 in
-    adds items text stage (Block fields ends) written new w (part_told stage part) continues (λ e. fits.0) (λ p. absurd (let clash : true ≡ false = sym fits.0 ∙ sym whole ∙ part_tells new p in cc)) (fits.1, refl)
+    let fits = trailers_fit setup.keep items text stage w (part_told stage part) fields ends good.1 in
+    adds setup.keep items text stage (Block fields ends) written new w (part_told stage part) continues (λ e. fits.0) (λ p. absurd (let clash : true ≡ false = sym fits.0 ∙ sym whole ∙ part_tells new p in cc)) (fits.1, refl)
 
 -- ---- what is written of a request that waits
 
 -- A head that doesn't end its stream is written, and waits.
-pub head_awaited : (setup : Setup) (head : List Field) (ended : Bool) (text : List ℕ) (stage : Stage) → IsGood setup (carried_by [] false) (Block head ended) → Sending false (parts_of head) ended text [] [] stage → is_whole stage ≡ ended → is_whole stage ≡ false → IsAwaited (Block head ended ∷ []) text stage []
+pub head_awaited : (setup : Setup) (head : List Field) (ended : Bool) (text : List ℕ) (stage : Stage) → IsGood setup (carried_by [] false) (Block head ended) → Sending setup.keep (parts_of head) ended text [] [] stage → is_whole stage ≡ ended → is_whole stage ≡ false → IsAwaited setup.keep (Block head ended ∷ []) text stage []
 head_awaited setup head ended text stage good sending whole part =
     let taken = head_taken setup head ended good.0 good.1 in
     let goes_on : ended ≡ false = sym whole ∙ part in record {
@@ -128,7 +128,7 @@ head_awaited setup head ended text stage good sending whole part =
       is = ap (λ b. Block head b ∷ []) goes_on;
       well_formed = taken.well_formed;
       no_connect = taken.no_connect;
-      sending = subst (λ b. Sending false (parts_of head) b text [] [] stage) goes_on sending;
+      sending = subst (λ b. Sending setup.keep (parts_of head) b text [] [] stage) goes_on sending;
       part = part_told stage part;
       body_is = refl;
       plain = refl;
@@ -136,8 +136,8 @@ head_awaited setup head ended text stage good sending whole part =
     }
 
 -- Octets that are good come behind those that wait. A block would end the stream.
-pub item_gathered : (setup : Setup) (items : List Item) (text : List ℕ) (stage : Stage) (body : List ℕ) (item : Item) → IsAwaited items text stage body → IsGood setup (carried_by items false) item → ends_with item ≡ false → IsAwaited (items ++ item ∷ []) text stage (body ++ octets_of item)
-item_gathered setup items text stage body (Block fields ends) w good goes_on = absurd (let clash : true ≡ false = sym (trailers_behind items text stage body w fields ends good.1).0 ∙ goes_on in cc)
+pub item_gathered : (setup : Setup) (items : List Item) (text : List ℕ) (stage : Stage) (body : List ℕ) (item : Item) → IsAwaited setup.keep items text stage body → IsGood setup (carried_by items false) item → ends_with item ≡ false → IsAwaited setup.keep (items ++ item ∷ []) text stage (body ++ octets_of item)
+item_gathered setup items text stage body (Block fields ends) w good goes_on = absurd (let clash : true ≡ false = sym (trailers_behind setup.keep items text stage body w fields ends good.1).0 ∙ goes_on in cc)
 item_gathered setup items text stage body (Content octets ends) w good goes_on = record {
   head = w.head;
   more = w.more ++ Content octets ends ∷ [];
@@ -146,14 +146,14 @@ item_gathered setup items text stage body (Content octets ends) w good goes_on =
   no_connect = w.no_connect;
   sending = w.sending;
   part = w.part;
-  body_is = body_more items text stage body w (Content octets ends);
+  body_is = body_more setup.keep items text stage body w (Content octets ends);
   plain = plain_append w.more (Content octets ends ∷ []) w.plain refl;
   goes_on = list_any-append ends_with items (Content octets ends ∷ []) ∙ ap (λ b. b || (ends || false)) w.goes_on ∙ ap (λ b. b || false) goes_on;
 }
 
 -- An item that is good ends the stream: its whole body is written.
-pub item_completes : (setup : Setup) (items : List Item) (text : List ℕ) (old : Stage) (body : List ℕ) (item : Item) (written : List ℕ) (stage : Stage) → IsAwaited items text old body → IsGood setup (carried_by items false) item → ends_with item ≡ true → Continues old written (body ++ octets_of item) (trailers_in item) stage → is_whole stage ≡ true
-    → IsWritten (items ++ item ∷ []) (text ++ written) stage
+pub item_completes : (setup : Setup) (items : List Item) (text : List ℕ) (old : Stage) (body : List ℕ) (item : Item) (written : List ℕ) (stage : Stage) → IsAwaited setup.keep items text old body → IsGood setup (carried_by items false) item → ends_with item ≡ true → Continues old written (body ++ octets_of item) (trailers_in item) stage → is_whole stage ≡ true
+    → IsWritten setup.keep (items ++ item ∷ []) (text ++ written) stage
 item_completes setup items text old body item written stage w good ends continues whole = record {
   head = w.head;
   ended = false;
@@ -162,9 +162,9 @@ item_completes setup items text old body item written stage w good ends continue
   is = ap (λ xs. xs ++ item ∷ []) w.is;
   well_formed = w.well_formed;
   no_connect = w.no_connect;
-  sending = subst (λ (fields : List Field). Sending false (parts_of w.head) false (text ++ written) ([] ++ piece_of (body ++ octets_of item)) fields stage) (sym (trailers_behind_contents w.more item w.plain))
-      (continues false (parts_of w.head) false text [] w.sending);
-  body = concat_more [] (body ++ octets_of item) ∙ body_more items text old body w item;
+  sending = subst (λ (fields : List Field). Sending setup.keep (parts_of w.head) false (text ++ written) ([] ++ piece_of (body ++ octets_of item)) fields stage) (sym (trailers_behind_contents w.more item w.plain))
+      (continues setup.keep (parts_of w.head) false text [] w.sending);
+  body = concat_more [] (body ++ octets_of item) ∙ body_more setup.keep items text old body w item;
   contents = contents_append w.more (item ∷ []) w.plain (are_contents item good);
   ends = λ e. ends_append items item w.goes_on ends;
   plain = λ part. absurd (part (whole_told stage whole));
@@ -173,7 +173,7 @@ item_completes setup items text old body item written stage w good ends continue
   where
     are_contents : (x : Item) → IsGood setup (carried_by items false) x → AreContents (x ∷ [])
     are_contents (Content octets b) g = tt
-    are_contents (Block fields b) g = ((trailers_behind items text old body w fields b g.1).1, refl)
+    are_contents (Block fields b) g = ((trailers_behind setup.keep items text old body w fields b g.1).1, refl)
 
 -- Octets are pushed and then the text is ended: as one step.
 pub ends_behind : (old middle new : Stage) (first second octets : List ℕ) (trailers : List Field) → Continues old first octets [] middle → Continues middle second [] trailers new → Continues old (first ++ second) octets trailers new

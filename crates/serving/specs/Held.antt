@@ -5,9 +5,10 @@ use Rattle.model.specs.Causes.{largest_fields}
 use Rattle.model.specs.Tapes.{Entry}
 use Rattle.model.specs.Tapes.Entry.{Came}
 use Rattle.h1_writer.specs.Sending.{held_back, most_line}
-use Rattle.serving.specs.State.{Way, Held, held_of, Live, live_of, Due, State}
+use Rattle.serving.specs.Lines.{Line, line_of}
+use Rattle.serving.specs.State.{Way, Held, held_of, Due, State}
 use Rattle.serving.specs.State.Way.{Waiting, Going, Dropped}
-use Rattle.serving.specs.State.Due.{Nothing, ToOpen, ToSend}
+use Rattle.serving.specs.State.Due.{Nothing, ToOpen, ToUse, ToSend}
 
 -- ---- what is held
 
@@ -23,15 +24,16 @@ held_requests stream [] = 0
 held_requests stream (h ∷ hs) = (if h.id == stream then held_by h.way else 0) + held_requests stream hs
 
 -- the connection is the stream's
-abbrev pub is_for : ℕ → Option Live → Bool
+abbrev pub is_for : ℕ → Option Line → Bool
 is_for stream None = false
-is_for stream (Some live) = live.stream == stream
+is_for stream (Some line) = line.stream == stream
 
--- the octets that are due for a stream: on a connection that is to be opened for it, or on one of its own
-abbrev pub due_for : ℕ → List Live → Due → ℕ
+-- the octets that are due for a stream: on a connection that is to be opened for it, or given to it, or on one of its own
+abbrev pub due_for : ℕ → List Line → Due → ℕ
 due_for stream ls Nothing = 0
 due_for stream ls (ToOpen other route text stage) = if other == stream then length text + held_back stage else 0
-due_for stream ls (ToSend k text) = if is_for stream (live_of k ls) then length text else 0
+due_for stream ls (ToUse k other text stage) = if other == stream then length text + held_back stage else 0
+due_for stream ls (ToSend k text) = if is_for stream (line_of k ls) then length text else 0
 
 -- all octets that are held for a stream
 abbrev pub held_for : ℕ → State → ℕ
@@ -41,6 +43,7 @@ held_for stream s = held_requests stream s.held + due_for stream s.live s.due
 abbrev pub due_octets : Due → ℕ
 due_octets Nothing = 0
 due_octets (ToOpen stream route text stage) = length text + held_back stage
+due_octets (ToUse k stream text stage) = length text + held_back stage
 due_octets (ToSend k text) = length text
 
 abbrev pub held_of_all : List Held → ℕ

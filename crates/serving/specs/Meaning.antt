@@ -1,18 +1,18 @@
 -- What the moves say of their entries, and what holds of the tape then.
-use Rattle.std.specs.Prelude.{◌≡◌, Bool, true, false, List, [], ◌∷◌, ◌++◌}
+use Rattle.std.specs.Prelude.{◌≡◌, false, List, [], ◌∷◌, ◌++◌}
 use Rattle.model.specs.Messages.{Item}
 use Rattle.model.specs.Messages.Item.{Block}
 use Rattle.model.specs.Tapes.{Noted, Entry}
 use Rattle.model.specs.Tapes.Entry.{Came, Happened}
-use Rattle.model.specs.Openings.{Opened, opens, GoToOpen}
-use Rattle.model.specs.Available.{IsIn}
+use Rattle.model.specs.Openings.{exchange_on, GoToOpen}
 use Rattle.model.specs.Known.{Known}
 use Rattle.model.specs.Lifetimes.{is_ended_by_client}
 use Rattle.model.specs.Courses.{items, upstream_of}
-use Rattle.model.specs.Idle.{IsAllHeard, FewAreIdle}
+use Rattle.model.specs.Idle.{FewAreIdle}
 use Rattle.model.specs.RequestClause.{RequestsHold}
 use Rattle.model.specs.ProgressClause.{AllForwarded, AllStreamed, AreClosed, ClosesRightly}
 use Rattle.serving.specs.Told.{IsTold}
+use Rattle.serving.specs.Pool.{Verdict}
 use Rattle.serving.specs.State.{Move, Turn, tape_of}
 use Rattle.serving.specs.State.Move.{Takes, Begins, Gathers, Passes, Drops, Hears}
 
@@ -23,20 +23,15 @@ pub record Brings (known : Known) (t : List Entry) (noted : Noted) (item : Item)
   pub adds : items known noted.frame.id (Came noted ∷ t) ≡ items known noted.frame.id t ++ item ∷ []
   pub goes_on : is_ended_by_client noted.frame.id t ≡ false
 
--- it is, or isn't
-abbrev pub Verdict : Known → List Entry → Opened → Bool → Type 0
-Verdict known t o true = IsAllHeard known t o
-Verdict known t o false = IsAllHeard known t o → ⊥
-
--- What the move says of its entry is so: which item a frame adds to its stream, and whether a response is whole.
+-- What the move says of its entry is so: which item a frame adds to its stream; and of an answer, whether a response is whole with it, and
+-- whether its connection may be kept then.
 abbrev pub IsSo : Known → List Entry → Move → Type 0
 IsSo known t (Takes noted) = items known noted.frame.id (Came noted ∷ t) ≡ items known noted.frame.id t
 IsSo known t (Begins noted head ended route text stage) = (items known noted.frame.id t ≡ []) × Brings known t noted (Block head ended)
 IsSo known t (Gathers noted item route text old body written stage) = Brings known t noted item
 IsSo known t (Passes noted item k old written stage) = Brings known t noted item
 IsSo known t (Drops noted item) = Brings known t noted item
-IsSo known t (Hears event whole) =
-    (o : Opened) → IsIn o (opens t) → o.k ≡ upstream_of event → Verdict known (Happened event ∷ t) o whole
+IsSo known t (Hears event heard) = Verdict known (Happened event ∷ t) (exchange_on (upstream_of event) t) heard
 IsSo known t _ = Unit {0}
 
 -- All that the moves say, and all that is told, is so.

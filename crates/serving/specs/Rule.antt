@@ -1,5 +1,5 @@
 -- Which move may come next, by what is kept and by what is told before and behind it.
-use Rattle.std.specs.Prelude.{◌≡◌, ℕ, suc, ◌<◌, Bool, true, false, not, ◌||◌, ◌⊎◌, List, [], ◌∷◌, ◌++◌, Some}
+use Rattle.std.specs.Prelude.{◌≡◌, ℕ, suc, ◌<◌, Bool, true, false, not, ◌⊎◌, List, [], ◌∷◌, ◌++◌, Some}
 use Rattle.std.specs.List.{list_any}
 use Rattle.model.specs.Http2.{authority_of, path_of}
 use Rattle.model.specs.Messages.{Field, Item, ends_with}
@@ -15,16 +15,23 @@ use Rattle.request_rules.specs.Heads.{parts_of}
 use Rattle.h1_writer.specs.Sending.{Stage, Sending, Continues}
 use Rattle.serving.specs.Written.{octets_of, trailers_in}
 use Rattle.serving.specs.Told.{Told, nothing_told}
-use Rattle.serving.specs.State.{held_of, Live, live_of, State, Move, Turn, is_whole, state_of}
+use Rattle.serving.specs.Lines.{Answer, Line, line_of}
+use Rattle.serving.specs.Lines.Answer.{Pending, Idle, Done}
+use Rattle.serving.specs.State.{held_of, State, Move, Turn, is_whole, state_of}
 use Rattle.serving.specs.State.Way.{Waiting, Going, Dropped}
-use Rattle.serving.specs.State.Due.{Nothing, ToOpen, ToSend}
+use Rattle.serving.specs.State.Due.{Nothing, ToOpen, ToUse, ToSend}
 use Rattle.serving.specs.State.Move.{Takes, Begins, Gathers, Passes, Drops, Breaks, Notes, Hears, Fails, Sends, Acts}
 
 -- ---- what comes in
 
--- a connection is done with: its response is whole, or its stream isn't served any more
-abbrev pub is_done : Told → Live → Bool
-is_done told l = l.whole || not (told.served l.stream)
+-- a connection is done with: its response is whole and it isn't idle, or it isn't whole and its stream isn't served any more
+abbrev pub is_done_by : Answer → Bool → Bool
+is_done_by Pending served = not served
+is_done_by Idle served = false
+is_done_by Done served = true
+
+abbrev pub is_done : Told → Line → Bool
+is_done told l = is_done_by l.answer (told.served l.stream)
 
 -- Something may come in: nothing is due, no connection is done with, and the connection to the client goes on.
 pub record MayCome (told : Told) (s : State) : Type 0 where
@@ -42,7 +49,7 @@ pub record IsServing (behind : Told) (noted : Noted) : Type 0 where
 pub record MayBegin (setup : Setup) (behind : Told) (noted : Noted) (head : List Field) (ended : Bool) (route : ℕ) (text : List ℕ) (stage : Stage) : Type 0 where
   pub serving : IsServing behind noted
   pub by_route : IsFirstMatch setup.routes (authority_of head) (path_of head) route
-  pub sending : Sending false (parts_of head) ended text [] [] stage
+  pub sending : Sending setup.keep (parts_of head) ended text [] [] stage
   pub whole : is_whole stage ≡ ended
 
 -- What is written where an item comes of a request that waits: the whole body and the trailers where the item ends it, and nothing
@@ -77,7 +84,7 @@ IsAnswer event = ⊥
 
 -- the connection with a number is open
 abbrev pub IsKept : State → ℕ → Type 0
-IsKept s k = (live : Live) × (live_of k s.live ≡ Some live)
+IsKept s k = (line : Line) × (line_of k s.live ≡ Some line)
 
 -- ---- what goes out
 
@@ -89,12 +96,18 @@ pub record MayOpen (s : State) (k route : ℕ) : Type 0 where
   pub due : s.due ≡ ToOpen stream route text stage
   pub next : k ≡ suc s.count
 
+-- Octets may go out with which an idle connection is given to a stream: they are due.
+pub record MayUse (s : State) (k : ℕ) (octets : List ℕ) : Type 0 where
+  pub stream : ℕ
+  pub stage : Stage
+  pub due : s.due ≡ ToUse k stream octets stage
+
 -- A connection may be closed: it is open, and done with, or the end is to come.
 pub record MayClose (told : Told) (s : State) (k : ℕ) : Type 0 where
   pub nothing : s.due ≡ Nothing
-  pub live : Live
-  pub found : live_of k s.live ≡ Some live
-  pub why : (is_done told live ≡ true) ⊎ (told.ends ≡ true)
+  pub line : Line
+  pub found : line_of k s.live ≡ Some line
+  pub why : (is_done told line ≡ true) ⊎ (told.ends ≡ true)
 
 -- The client may be closed: no connection is open.
 pub record MayShut (s : State) : Type 0 where
@@ -103,7 +116,7 @@ pub record MayShut (s : State) : Type 0 where
 
 abbrev pub MayAct : Told → State → Act → Type 0
 MayAct told s (Open k route) = MayOpen s k route
-MayAct told s (ToUp k octets) = s.due ≡ ToSend k octets
+MayAct told s (ToUp k octets) = (s.due ≡ ToSend k octets) ⊎ MayUse s k octets
 MayAct told s (Close k) = MayClose told s k
 MayAct told s CloseClient = MayShut s
 
@@ -123,7 +136,7 @@ MayMove setup before behind s (Passes noted item k old written stage) = MayCome 
 MayMove setup before behind s (Drops noted item) = MayCome before s × MayDrop behind s noted
 MayMove setup before behind s (Breaks breach) = MayCome before s
 MayMove setup before behind s (Notes event) = MayCome before s × (upstream_of event ≡ 0)
-MayMove setup before behind s (Hears event whole) = MayCome before s × IsAnswer event × IsKept s (upstream_of event)
+MayMove setup before behind s (Hears event heard) = MayCome before s × IsAnswer event × IsKept s (upstream_of event)
 MayMove setup before behind s (Fails k) = MayCome before s × IsKept s k
 MayMove setup before behind s (Sends noted) = MaySend s noted
 MayMove setup before behind s (Acts act) = MayAct before s act
@@ -138,9 +151,9 @@ abbrev pub told_of : List Turn → Told
 told_of [] = nothing_told
 told_of (turn ∷ turns) = turn.told
 
--- Each move might come where it came; the newest stands first. By this rule no connection is kept for another request.
+-- Each move might come where it came; the newest stands first.
 abbrev pub AreAllowed : Setup → List Turn → Type 0
-AreAllowed setup [] = setup.keep ≡ false
+AreAllowed setup [] = Unit {0}
 AreAllowed setup (turn ∷ turns) = AreAllowed setup turns × IsAllowed setup (told_of turns) turn.told (state_of setup turns) turn.move
 
 -- The step may end: nothing is due, no connection is done with, and the client is closed if it is to be.

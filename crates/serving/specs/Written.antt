@@ -25,8 +25,9 @@ abbrev pub trailers_in : Item → List Field
 trailers_in (Content octets ends) = []
 trailers_in (Block fields ends) = passed_trailers fields
 
--- This text was written for the items, and that is waited for: it is whole just where they come to the stream's end.
-pub record IsWritten (items : List Item) (text : List ℕ) (stage : Stage) : Type 0 where
+-- This text was written for the items, for a connection that is kept or isn't, and that is waited for: it is whole just where they come
+-- to the stream's end.
+pub record IsWritten (keep : Bool) (items : List Item) (text : List ℕ) (stage : Stage) : Type 0 where
   pub head : List Field
   pub ended : Bool
   pub more : List Item
@@ -34,7 +35,7 @@ pub record IsWritten (items : List Item) (text : List ℕ) (stage : Stage) : Typ
   pub is : items ≡ Block head ended ∷ more
   pub well_formed : WellFormedHead head
   pub no_connect : is_connect head ≡ false
-  pub sending : Sending false (parts_of head) ended text pieces (passed_trailers (first_block more)) stage
+  pub sending : Sending keep (parts_of head) ended text pieces (passed_trailers (first_block more)) stage
   pub body : concat pieces ≡ body_of more
   pub contents : AreContents more
   pub ends : stage ≡ Whole → EndsWithLast items
@@ -42,13 +43,13 @@ pub record IsWritten (items : List Item) (text : List ℕ) (stage : Stage) : Typ
   pub goes_on : (stage ≡ Whole → ⊥) → list_any ends_with items ≡ false
 
 -- This text was written for the head of these items, which go on, and that is waited for; these octets of their body weren't written yet.
-pub record IsAwaited (items : List Item) (text : List ℕ) (stage : Stage) (body : List ℕ) : Type 0 where
+pub record IsAwaited (keep : Bool) (items : List Item) (text : List ℕ) (stage : Stage) (body : List ℕ) : Type 0 where
   pub head : List Field
   pub more : List Item
   pub is : items ≡ Block head false ∷ more
   pub well_formed : WellFormedHead head
   pub no_connect : is_connect head ≡ false
-  pub sending : Sending false (parts_of head) false text [] [] stage
+  pub sending : Sending keep (parts_of head) false text [] [] stage
   pub part : stage ≡ Whole → ⊥
   pub body_is : body ≡ body_of more
   pub plain : list_all is_content more ≡ true

@@ -436,6 +436,24 @@ fn a_world_waits_until_something_comes(rt: HostRuntime) -> Result<(), Fail> {
     Ok(())
 }
 
+#[test]
+fn an_end_that_is_known_comes_before_the_clients_octets(rt: HostRuntime) -> Result<(), Fail> {
+    let upstream = quiet_listener(&rt)?;
+    let addresses = [upstream.local_addr()?];
+    let (mut client, far) = pair(&rt)?;
+    let mut world = SocketWorld::new(rt.alloc(), &rt, &addresses, far)?;
+    let opened = world.apply(&Output::Open(1, 0));
+    assert_eq!(rt; opened, Ok(()));
+    client.write_all(REQUEST)?;
+    // The connection is accepted, and ended. So a request that comes then doesn't go out on it, were it an idle one.
+    assert!(rt; is_called(&upstream));
+    let next = world.next(&[(1, 65536)]);
+    assert!(rt; matches!(next, Ok(Next::Happened(Event::UpEnd(1)))));
+    let next = world.next(&[]);
+    assert!(rt; matches!(next, Ok(Next::Happened(Event::Client(_)))));
+    Ok(())
+}
+
 /// The request on three streams.
 const THREE: &[u8] =
     b"PRI * HTTP/2.0\r\n\r\nSM\r\n\r\n\0\0\0\x04\0\0\0\0\0\0\0\x14\x01\x05\0\0\0\x01\x82\x86\x84\x41\x0fwww.example.com\0\0\x04\x01\x05\0\0\0\x03\x82\x86\x84\xbe\0\0\x04\x01\x05\0\0\0\x05\x82\x86\x84\xbe";

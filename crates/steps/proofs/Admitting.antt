@@ -21,7 +21,7 @@ use Rattle.receiving.specs.State as receiving
 use Rattle.receiving.proofs.Admitting.{is_room, admitted, admits_it}
 use Rattle.receiving.proofs.Counting.{Counting}
 use Rattle.serving.specs.State as serving
-use Rattle.serving.specs.State.{find, live_of}
+use Rattle.serving.specs.Lines.{find, line_of}
 use Rattle.serving.proofs.Connections.{connections_told}
 use Rattle.upstreams.specs.Connections.{Connection, number_of}
 use Rattle.policy.specs.Moves.{Move}
@@ -100,7 +100,7 @@ module _ (setup : Setup) (run : List Move) (kept : View) (pending : Pending) (s 
 
   up : (k : ℕ) → gates.is_up k ≡ is_up kept k
   up k =
-      ap (λ (r : serving.State). is_some (live_of k r.live)) leads.keeps.requests
+      ap (λ (r : serving.State). is_some (line_of k r.live)) leads.keeps.requests
       ∙ ap is_some (lives_found k kept.upstreams.live)
       ∙ some_mapped (λ (c : Connection). c.live) (find number_of k kept.upstreams.live)
 

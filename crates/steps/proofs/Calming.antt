@@ -13,7 +13,7 @@ use Rattle.conduct.specs.Owing.{highest_in}
 use Rattle.conduct.specs.Quiet.{noted_of}
 use Rattle.conduct.specs.Rows.{ids_of}
 use Rattle.serving.specs.State as serving
-use Rattle.serving.specs.State.{Live}
+use Rattle.serving.specs.Lines.{Line}
 use Rattle.serving.specs.State.Due.{Nothing}
 use Rattle.upstreams.specs.Connections.{lives}
 use Rattle.policy.specs.Answered.{IsAnswered}
@@ -44,7 +44,7 @@ pub calmed_as : (a b : View) (o p : List Output) → ids_of a.inbound.rows ≡ i
 calmed_as a b o p ids live untaken is = (
   ap (nat_lt most_untaken) (sym untaken) ∙ is.0,
   is.1
-      ∙ ap (λ (ls : List Live). put_all o (Did CloseClient ∷ (closed_all (reverse ls) ++ Sent (noted_of (goaway (highest_in (ids_of a.inbound.rows)) enhance_your_calm)) ∷ []))) live
+      ∙ ap (λ (ls : List Line). put_all o (Did CloseClient ∷ (closed_all (reverse ls) ++ Sent (noted_of (goaway (highest_in (ids_of a.inbound.rows)) enhance_your_calm)) ∷ []))) live
       ∙ ap (λ (xs : List ℕ). put_all o (Did CloseClient ∷ (closed_all (reverse (lives b.upstreams.live)) ++ Sent (noted_of (goaway (highest_in xs) enhance_your_calm)) ∷ []))) ids,
 )
 
@@ -75,7 +75,7 @@ module _ (setup : Setup) (kept : View) (pending : Pending) (would : WouldBeSent 
     tape : tape_of moves ≡ calmed kept
     tape =
         end_tape s d
-        ∙ ap (λ (ls : List Live). Did CloseClient ∷ (closed_all (reverse ls) ++ entry_of d ∷ [])) live
+        ∙ ap (λ (ls : List Line). Did CloseClient ∷ (closed_all (reverse ls) ++ entry_of d ∷ [])) live
         ∙ ap (λ (xs : List ℕ). Did CloseClient ∷ (closed_all (reverse (lives kept.upstreams.live)) ++ Sent (noted_of (goaway (highest_in xs) enhance_your_calm)) ∷ [])) ids
 
     calmed_own : AreOwn (calmed kept)

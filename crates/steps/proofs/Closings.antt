@@ -17,12 +17,13 @@ use Rattle.conduct.specs.Rows.{find as find_row}
 use Rattle.conduct.specs.Rows.Slot.{Over}
 use Rattle.conduct.specs.Book.{Book, summary_in, book_after}
 use Rattle.conduct.specs.Tidy.{AreKept}
-use Rattle.serving.specs.State.{Live, find, without}
+use Rattle.serving.specs.Lines.{Answer, Line, find, without, is_idle}
+use Rattle.serving.specs.Lines.Answer.{Pending, Idle, Done}
 use Rattle.serving.specs.Told.{Told}
-use Rattle.serving.specs.Rule.{is_done}
+use Rattle.serving.specs.Rule.{is_done, is_done_by}
 use Rattle.streams_kept.specs.Asked.{has, is_active, changed}
 use Rattle.streams_kept.specs.Sending.{is_served}
-use Rattle.upstreams.specs.Connections.{Connection, number_of, stream_of, lives, AreBelow}
+use Rattle.upstreams.specs.Connections.{Connection, number_of, works_for, lives, AreBelow}
 use Rattle.relay.specs.View.{View}
 use Rattle.relay.specs.Rest.{told_view, NoneDone}
 use Rattle.relay.proofs.Beside.{others_stay, served_stays}
@@ -32,12 +33,12 @@ use Rattle.steps.proofs.flushing.Rows.{not_flip, found_own, found_other, active_
 
 -- ---- tests of which none of some holds
 
-or_both : (a b : Bool) → (a || b) ≡ false → (a ≡ false) × (b ≡ false)
+pub or_both : (a b : Bool) → (a || b) ≡ false → (a ≡ false) × (b ≡ false)
 or_both false false is = (refl, refl)
 or_both false true is = cc
 or_both true b is = cc
 
-or_none : (a b : Bool) → a ≡ false → b ≡ false → (a || b) ≡ false
+pub or_none : (a b : Bool) → a ≡ false → b ≡ false → (a || b) ≡ false
 or_none false false a b = refl
 or_none false true a b = cc
 or_none true b is other = cc
@@ -49,14 +50,17 @@ none_any p q less (x ∷ xs) none =
     let parts = or_both (p x) (list_any p xs) none in or_none (q x) (list_any q xs) (less x parts.0) (none_any p q less xs parts.1)
 
 -- a connection isn't done with where its stream is served as before
-still_on : (before behind : Told) (l : Live) → (before.served l.stream ≡ true → behind.served l.stream ≡ true) → is_done before l ≡ false → is_done behind l ≡ false
-still_on before behind l served on =
-    let parts = or_both l.whole (not (before.served l.stream)) on in
-    or_none l.whole (not (behind.served l.stream)) parts.0 (ap not (served (flip (before.served l.stream) parts.1)))
+still_on : (before behind : Told) (l : Line) → (before.served l.stream ≡ true → behind.served l.stream ≡ true) → is_done before l ≡ false → is_done behind l ≡ false
+still_on before behind l served on = by l.answer on
   where
     flip : (b : Bool) → not b ≡ false → b ≡ true
     flip true is = refl
     flip false is = cc
+
+    by : (a : Answer) → is_done_by a (before.served l.stream) ≡ false → is_done_by a (behind.served l.stream) ≡ false
+    by Pending on = ap not (served (flip (before.served l.stream) on))
+    by Idle on = refl
+    by Done on = let no : true ≡ false = on in cc
 
 or_right : (a b : Bool) → b ≡ true → (a || b) ≡ true
 or_right true b is = refl
@@ -67,7 +71,7 @@ or_right false b is = is
 -- None but those of the stream is done with behind it.
 pub about_but : (id : ℕ) (old new : View) → IsAbout id old new → NoneDone old → NoneDoneBut id new
 about_but id old new about none =
-    ap (λ (ls : List Live). list_any (is_done (told_but id new)) ls) about.live
+    ap (λ (ls : List Line). list_any (is_done (told_but id new)) ls) about.live
     ∙ none_any (is_done (told_view old)) (is_done (told_but id new)) (λ l. still_on (told_view old) (told_but id new) l (served l.stream)) (lives old.upstreams.live) none
   where
     served : (stream : ℕ) → is_served old.inbound.rows stream ≡ true → (id == stream || is_served new.inbound.rows stream) ≡ true
@@ -82,13 +86,13 @@ but_one id kept none = about_but id kept kept (record { served = λ other apart.
 -- What is told of streams stays: so does which are done with.
 pub but_stays : (id : ℕ) (old new : View) → ((stream : ℕ) → is_served new.inbound.rows stream ≡ is_served old.inbound.rows stream) → lives new.upstreams.live ≡ lives old.upstreams.live → NoneDoneBut id old → NoneDoneBut id new
 but_stays id old new same live none =
-    ap (λ (ls : List Live). list_any (is_done (told_but id new)) ls) live
+    ap (λ (ls : List Line). list_any (is_done (told_but id new)) ls) live
     ∙ none_any (is_done (told_but id old)) (is_done (told_but id new))
     (λ l. still_on (told_but id old) (told_but id new) l (λ was. ap (λ b. id == l.stream || b) (same l.stream) ∙ was)) (lives old.upstreams.live) none
 
 pub none_stays : (old new : View) → ((stream : ℕ) → is_served new.inbound.rows stream ≡ is_served old.inbound.rows stream) → lives new.upstreams.live ≡ lives old.upstreams.live → NoneDone old → NoneDone new
 none_stays old new same live none =
-    ap (λ (ls : List Live). list_any (is_done (told_view new)) ls) live
+    ap (λ (ls : List Line). list_any (is_done (told_view new)) ls) live
     ∙ none_any (is_done (told_view old)) (is_done (told_view new)) (λ l. still_on (told_view old) (told_view new) l (λ was. same l.stream ∙ was)) (lives old.upstreams.live) none
 
 -- ---- where the stream is served, or has no connection, none is done with
@@ -103,31 +107,40 @@ none_served id kept on none =
       | inr apart ↦ sym (ap (λ b. b || (told_view kept).served stream) apart.0) ∙ either
     ]
 
--- none of these is of the stream
+-- one that works for another stream, or is idle, is done with just where it was
+beside : (id : ℕ) (kept : View) (c : Connection) → (works_for c == suc id) ≡ false → is_done (told_but id kept) c.live ≡ false → is_done (told_view kept) c.live ≡ false
+beside id kept c apart none = by c.live.answer refl none
+  where
+    other : is_idle c.live.answer ≡ false → (id == c.live.stream) ≡ false
+    other working = ne_eqb id c.live.stream (λ same.
+        let clash : true ≡ false = sym (eq-eqb (works_for c) (suc id) (ap (λ b. if b then 0 else suc c.live.stream) working ∙ ap suc (sym same))) ∙ apart in cc)
+
+    by : (a : Answer) → c.live.answer ≡ a → is_done_by a (id == c.live.stream || (told_view kept).served c.live.stream) ≡ false → is_done_by a ((told_view kept).served c.live.stream) ≡ false
+    by Pending is off = sym (ap (λ b. not (b || (told_view kept).served c.live.stream)) (other (ap is_idle is))) ∙ off
+    by Idle is off = refl
+    by Done is off = off
+
+-- none of these works for the stream
 module _ (id : ℕ) (kept : View) where
-  none_of : (cs : List Connection) → find stream_of id cs ≡ None → list_any (is_done (told_but id kept)) (lives cs) ≡ false → list_any (is_done (told_view kept)) (lives cs) ≡ false
+  none_of : (cs : List Connection) → find works_for (suc id) cs ≡ None → list_any (is_done (told_but id kept)) (lives cs) ≡ false → list_any (is_done (told_view kept)) (lives cs) ≡ false
   none_of [] absent none = refl
-  none_of (c ∷ cs) absent none = by (c.live.stream == id) refl absent (none_of cs)
+  none_of (c ∷ cs) absent none = by (works_for c == suc id) refl absent (none_of cs)
     where
       parts : (is_done (told_but id kept) c.live ≡ false) × (list_any (is_done (told_but id kept)) (lives cs) ≡ false)
       parts = or_both (is_done (told_but id kept) c.live) (list_any (is_done (told_but id kept)) (lives cs)) none
 
-      by : (b : Bool) → (c.live.stream == id) ≡ b → (if b then Some c else find stream_of id cs) ≡ None
-          → (find stream_of id cs ≡ None → list_any (is_done (told_but id kept)) (lives cs) ≡ false → list_any (is_done (told_view kept)) (lives cs) ≡ false) → list_any (is_done (told_view kept)) (lives (c ∷ cs)) ≡ false
+      by : (b : Bool) → (works_for c == suc id) ≡ b → (if b then Some c else find works_for (suc id) cs) ≡ None
+          → (find works_for (suc id) cs ≡ None → list_any (is_done (told_but id kept)) (lives cs) ≡ false → list_any (is_done (told_view kept)) (lives cs) ≡ false) → list_any (is_done (told_view kept)) (lives (c ∷ cs)) ≡ false
       by true own found more = let clash : ◌≡◌ {A = Option Connection} (Some c) None = found in cc
-      by false apart rest more =
-          let other : (id == c.live.stream) ≡ false = ne_eqb id c.live.stream (λ same. let clash : true ≡ false = sym (eq-eqb c.live.stream id (sym same)) ∙ apart in cc) in
-          or_none (is_done (told_view kept) c.live) (list_any (is_done (told_view kept)) (lives cs))
-          (still_on (told_but id kept) (told_view kept) c.live (λ either. sym (ap (λ b. b || (told_view kept).served c.live.stream) other) ∙ either) parts.0)
-          (more rest parts.1)
+      by false apart rest more = or_none (is_done (told_view kept) c.live) (list_any (is_done (told_view kept)) (lives cs)) (beside id kept c apart parts.0) (more rest parts.1)
 
-  pub none_open : find stream_of id kept.upstreams.live ≡ None → NoneDoneBut id kept → NoneDone kept
+  pub none_open : find works_for (suc id) kept.upstreams.live ≡ None → NoneDoneBut id kept → NoneDone kept
   none_open absent none = none_of kept.upstreams.live absent none
 
 -- ---- a connection that is closed
 
 -- none is done with that wasn't
-closed_none : (p : Live → Bool) (k : ℕ) (cs : List Connection) → list_any p (lives cs) ≡ false → list_any p (lives (without number_of k cs)) ≡ false
+closed_none : (p : Line → Bool) (k : ℕ) (cs : List Connection) → list_any p (lives cs) ≡ false → list_any p (lives (without number_of k cs)) ≡ false
 closed_none p k [] none = refl
 closed_none p k (c ∷ cs) none = by (number_of c == k) (closed_none p k cs parts.1)
   where
@@ -154,43 +167,56 @@ no_more k (c ∷ cs) = by (number_of c == k) (no_more k cs)
     by false le = omega (arith, le)
 
 -- one fewer is open then, where one of the stream was
-pub fewer : (id : ℕ) (cs : List Connection) (c : Connection) → find stream_of id cs ≡ Some c → length (without number_of c.live.k cs) < length cs
+pub fewer : (id : ℕ) (cs : List Connection) (c : Connection) → find works_for (suc id) cs ≡ Some c → length (without number_of c.live.k cs) < length cs
 fewer id [] c found = let clash : ◌≡◌ {A = Option Connection} None (Some c) = found in cc
 fewer id (x ∷ cs) c found = by (x.live.k == c.live.k) refl (fewer id cs c)
   where
-    later : (b : Bool) → (if b then Some x else find stream_of id cs) ≡ Some c → (x.live.k == c.live.k) ≡ false → find stream_of id cs ≡ Some c
+    later : (b : Bool) → (if b then Some x else find works_for (suc id) cs) ≡ Some c → (x.live.k == c.live.k) ≡ false → find works_for (suc id) cs ≡ Some c
     later true is apart = let same : x ≡ c = cc in absurd (let clash : true ≡ false = sym (eq-eqb x.live.k c.live.k (ap (λ (y : Connection). y.live.k) same)) ∙ apart in cc)
     later false is apart = is
 
-    by : (b : Bool) → (x.live.k == c.live.k) ≡ b → (find stream_of id cs ≡ Some c → length (without number_of c.live.k cs) < length cs) → length (if x.live.k == c.live.k then without number_of c.live.k cs else x ∷ without number_of c.live.k cs) < suc (length cs)
+    by : (b : Bool) → (x.live.k == c.live.k) ≡ b → (find works_for (suc id) cs ≡ Some c → length (without number_of c.live.k cs) < length cs) → length (if x.live.k == c.live.k then without number_of c.live.k cs else x ∷ without number_of c.live.k cs) < suc (length cs)
     by true own more = let le = no_more c.live.k cs in subst (λ b. length (if b then without number_of c.live.k cs else x ∷ without number_of c.live.k cs) < suc (length cs)) (sym own) (omega (arith, le))
     by false apart more =
-        let less = more (later (x.live.stream == id) found apart) in
+        let less = more (later (works_for x == suc id) found apart) in
         subst (λ b. length (if b then without number_of c.live.k cs else x ∷ without number_of c.live.k cs) < suc (length cs)) (sym apart) (omega (arith, less))
 
 -- ---- a stream that isn't served
 
--- the number of its newest connection is below
-found_below : (top id : ℕ) (cs : List Connection) (c : Connection) → AreBelow top cs → find stream_of id cs ≡ Some c → c.live.k < top
-found_below top id [] c below found = let clash : ◌≡◌ {A = Option Connection} None (Some c) = found in cc
-found_below top id (x ∷ cs) c below found = by (x.live.stream == id) found (found_below x.live.k id cs c below.1)
+-- a connection that works for a stream isn't idle
+working : (c : Connection) (id : ℕ) → works_for c ≡ suc id → (is_idle c.live.answer ≡ false) × (c.live.stream ≡ id)
+working c id is = by (is_idle c.live.answer) refl is
   where
-    by : (b : Bool) → (if b then Some x else find stream_of id cs) ≡ Some c → (find stream_of id cs ≡ Some c → c.live.k < x.live.k) → c.live.k < top
+    by : (b : Bool) → is_idle c.live.answer ≡ b → (if b then 0 else suc c.live.stream) ≡ suc id → (is_idle c.live.answer ≡ false) × (c.live.stream ≡ id)
+    by true idle none = absurd (omega (arith, none))
+    by false on same = (on, omega (arith, same))
+
+done_unless : (a : Answer) → is_idle a ≡ false → is_done_by a false ≡ true
+done_unless Pending on = refl
+done_unless Idle on = let no : true ≡ false = on in cc
+done_unless Done on = refl
+
+-- the number of its newest connection is below
+found_below : (top id : ℕ) (cs : List Connection) (c : Connection) → AreBelow top cs → find works_for (suc id) cs ≡ Some c → c.live.k < top
+found_below top id [] c below found = let clash : ◌≡◌ {A = Option Connection} None (Some c) = found in cc
+found_below top id (x ∷ cs) c below found = by (works_for x == suc id) found (found_below x.live.k id cs c below.1)
+  where
+    by : (b : Bool) → (if b then Some x else find works_for (suc id) cs) ≡ Some c → (find works_for (suc id) cs ≡ Some c → c.live.k < x.live.k) → c.live.k < top
     by true is more = let same : x ≡ c = cc in subst (λ (y : Connection). y.live.k < top) same below.0
     by false is more = let less = more is in let first = below.0 in omega (arith, less, first)
 
 -- Its newest connection is done with.
-pub unserved_done : (told : Told) (top id : ℕ) (cs : List Connection) (c : Connection) → told.served id ≡ false → AreBelow top cs → find stream_of id cs ≡ Some c → IsDone told cs c.live.k
+pub unserved_done : (told : Told) (top id : ℕ) (cs : List Connection) (c : Connection) → told.served id ≡ false → AreBelow top cs → find works_for (suc id) cs ≡ Some c → IsDone told cs c.live.k
 unserved_done told top id [] c off below found = let clash : ◌≡◌ {A = Option Connection} None (Some c) = found in cc
-unserved_done told top id (x ∷ cs) c off below found = by (x.live.stream == id) refl found (unserved_done told x.live.k id cs c off below.1)
+unserved_done told top id (x ∷ cs) c off below found = by (works_for x == suc id) refl found (unserved_done told x.live.k id cs c off below.1)
   where
-    by : (b : Bool) → (x.live.stream == id) ≡ b → (if b then Some x else find stream_of id cs) ≡ Some c → (find stream_of id cs ≡ Some c → IsDone told cs c.live.k) → IsDone told (x ∷ cs) c.live.k
+    by : (b : Bool) → (works_for x == suc id) ≡ b → (if b then Some x else find works_for (suc id) cs) ≡ Some c → (find works_for (suc id) cs ≡ Some c → IsDone told cs c.live.k) → IsDone told (x ∷ cs) c.live.k
     by true own is more =
         let same : x ≡ c = cc in
         record {
           connection = x;
           found = ap (λ b. if b then Some x else find number_of c.live.k cs) (eq-eqb x.live.k c.live.k (ap (λ (y : Connection). y.live.k) same));
-          done = or_right x.live.whole (not (told.served x.live.stream)) (ap (λ n. not (told.served n)) (eqb-true x.live.stream id own) ∙ ap not off);
+          done = let its = working x id (eqb-true (works_for x) (suc id) own) in ap (λ n. is_done_by x.live.answer (told.served n)) its.1 ∙ ap (is_done_by x.live.answer) off ∙ done_unless x.live.answer its.0;
         }
     by false apart rest more =
         let one = more rest in
@@ -254,3 +280,8 @@ if_stream (Some c) stream v of none = subst (λ n. NoneDoneBut n v) of none
 pub of_stream : (o : Option Connection) (stream : ℕ) (v : View) → is_some o ≡ true → IfSome o (λ c. stream ≡ c.live.stream) → IfSome o (λ c. NoneDoneBut c.live.stream v) → NoneDoneBut stream v
 of_stream None stream v some of none = absurd (let no : false ≡ true = some in cc)
 of_stream (Some c) stream v some of none = subst (λ n. NoneDoneBut n v) (sym of) none
+
+-- nothing is done with, so nothing but those of its stream
+pub if_any : (o : Option Connection) (v : View) → NoneDone v → IfSome o (λ c. NoneDoneBut c.live.stream v)
+if_any None v none = tt
+if_any (Some c) v none = but_one c.live.stream v none

@@ -8,7 +8,7 @@ use Rattle.model.specs.Tables.{Table}
 use Rattle.model.specs.Tapes.{Entry, is_closed}
 use Rattle.model.specs.Tapes.Entry.{Sent, Did}
 use Rattle.conduct.specs.Quiet.{noted_of}
-use Rattle.serving.specs.State.{Live}
+use Rattle.serving.specs.Lines.{Line}
 use Rattle.policy.specs.Moves.{Deed, Move, entry_of}
 use Rattle.policy.specs.Moves.Deed.{Acts, Sends}
 use Rattle.policy.specs.Moves.Move.{Does}
@@ -29,7 +29,7 @@ use Rattle.steps.proofs.Following.{IsInput, inputs_so, spelled_so, follow_so}
 
 -- ---- the moves of an end on the tape
 
-closes_tape : (ls : List Live) → tape_of (closes_of ls) ≡ closed_all ls
+closes_tape : (ls : List Line) → tape_of (closes_of ls) ≡ closed_all ls
 closes_tape [] = refl
 closes_tape (l ∷ ls) = tape_behind (closes_of ls) (Does (Acts (Close l.k)) ∷ []) ∙ ap (λ (t : List Entry). t ++ Did (Close l.k) ∷ []) (closes_tape ls)
 

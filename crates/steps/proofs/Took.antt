@@ -4,8 +4,8 @@ use Rattle.std.specs.List.{list_any}
 use Rattle.model.specs.Admission.{high_water}
 use Rattle.model.specs.Logs.{Output}
 use Rattle.model.specs.Setup.{Setup}
-use Rattle.serving.specs.State.{Live}
-use Rattle.serving.specs.Rule.{is_done}
+use Rattle.serving.specs.Lines.{Line}
+use Rattle.serving.specs.Rule.{is_done, is_done_by}
 use Rattle.upstreams.specs.Connections.{Connection, lives, taken_at}
 use Rattle.upstreams.specs.Kept.{State}
 use Rattle.relay.specs.View.{View, square}
@@ -20,14 +20,14 @@ use Rattle.steps.proofs.Following.{follows_own}
 -- which connections there are doesn't change with what their sides took
 lives_taken : (k count : ℕ) (cs : List Connection) → lives (map (taken_at k count) cs) ≡ lives cs
 lives_taken k count [] = refl
-lives_taken k count (c ∷ cs) = ap (λ (ls : List Live). c.live ∷ ls) (lives_taken k count cs)
+lives_taken k count (c ∷ cs) = ap (λ (ls : List Line). c.live ∷ ls) (lives_taken k count cs)
 
 pub up_rests : (kept : View) (k stream count : ℕ) → IsSettled kept → IsSettled (with_taken k stream count kept)
 up_rests kept k stream count s = record {
   rest = record {
     goes_on = s.rest.goes_on;
     none_cut = s.rest.none_cut;
-    none_done = ap (λ (ls : List Live). list_any (is_done (told_view kept)) ls) (lives_taken k count kept.upstreams.live) ∙ s.rest.none_done;
+    none_done = ap (λ (ls : List Line). list_any (is_done (told_view kept)) ls) (lives_taken k count kept.upstreams.live) ∙ s.rest.none_done;
     flushed = s.rest.flushed;
   };
   numbered = s.numbered;
@@ -38,9 +38,9 @@ pub done_returned : (old new : View) → IsReturned old new → NoneDone old →
 done_returned old new r none =
     ap (λ (u : State). list_any (is_done (told_view new)) (lives u.live)) r.upstreams ∙ same_any (lives old.upstreams.live) ∙ none
   where
-    same_any : (ls : List Live) → list_any (is_done (told_view new)) ls ≡ list_any (is_done (told_view old)) ls
+    same_any : (ls : List Line) → list_any (is_done (told_view new)) ls ≡ list_any (is_done (told_view old)) ls
     same_any [] = refl
-    same_any (l ∷ ls) = ap (λ b. (l.whole || not b) || list_any (is_done (told_view new)) ls) (r.served l.stream) ∙ ap (λ b. is_done (told_view old) l || b) (same_any ls)
+    same_any (l ∷ ls) = ap (λ b. is_done_by l.answer b || list_any (is_done (told_view new)) ls) (r.served l.stream) ∙ ap (λ b. is_done (told_view old) l || b) (same_any ls)
 
 -- where few octets for the client were untaken, no part could go, and none can
 pub client_rests : (kept : View) (count : ℕ) → kept.untaken < high_water → IsSettled kept → IsSettled (record kept { untaken = kept.untaken - count })

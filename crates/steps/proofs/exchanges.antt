@@ -1,3 +1,4 @@
+pub mod Newest
 pub mod Asking
 pub mod Few
 pub mod Opens
@@ -11,3 +12,6 @@ pub mod Pays
 pub mod Lends
 pub mod Closes
 pub mod Done
+pub mod Reuses
+pub mod Idles
+pub mod Finishes

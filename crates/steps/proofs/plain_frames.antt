@@ -1,6 +1,7 @@
 pub mod Streams
 pub mod Faults
 pub mod Standing
+pub mod Newest
 pub mod Coming
 pub mod Quiet
 pub mod Limits

@@ -1,11 +1,11 @@
 -- Which event may come, by what is kept.
-use Rattle.std.specs.Prelude.{ℕ, ◌+◌, ◌-◌, Bool, true, false, ◌&&◌, nat_le, length, Option, Some, None, is_some}
+use Rattle.std.specs.Prelude.{ℕ, ◌+◌, ◌-◌, Bool, true, false, ◌&&◌, nat_le, if◌then◌else◌, length, Option, Some, None, is_some}
 use Rattle.model.specs.Logs.{Event}
 use Rattle.model.specs.Logs.Event.{Client, ClientEnd, ClientTook, Up, UpEnd, UpFailed, UpTook}
 use Rattle.model.specs.Setup.{Passing}
 use Rattle.model.specs.Setup.Passing.{Whole, Streaming}
 use Rattle.offering.specs.State as offering
-use Rattle.serving.specs.State.{find}
+use Rattle.serving.specs.Lines.{find, is_idle}
 use Rattle.answers.specs.Waiting.{passing_in}
 use Rattle.upstreams.specs.Connections.{Connection, number_of}
 use Rattle.offers.specs.Asked.{held_for}
@@ -27,10 +27,10 @@ abbrev pub takes_room : Passing → offering.State → ℕ → ℕ
 takes_room Whole offers stream = 0
 takes_room Streaming offers stream = held_for stream offers.kept
 
--- how many of a connection's do, if that is open
+-- how many of a connection's do, if that is open: none where it is idle, since the exchange with its last stream is over
 abbrev pub held_of : offering.State → Option Connection → ℕ
 held_of offers None = 0
-held_of offers (Some c) = takes_room (passing_in c.answer.way) offers c.live.stream
+held_of offers (Some c) = if is_idle c.live.answer then 0 else takes_room (passing_in c.answer.way) offers c.live.stream
 
 abbrev pub held_on : View → ℕ → ℕ
 held_on kept k = held_of kept.offers (find number_of k kept.upstreams.live)

@@ -40,3 +40,4 @@ pub record IsPassedBy (setup : Setup) (way : Passing) : Type 0 where
 pub record IsServed (setup : Setup) (service : Service) : Type 0 where
   pub terms : IsFor setup service.terms
   pub passing : IsPassedBy setup service.passing
+  pub keep : service.keep ≡ setup.keep

@@ -1,3 +1,4 @@
 pub mod Giving
 pub mod Taking
 pub mod Opening
+pub mod Finishing

@@ -4,6 +4,8 @@
 //! due to its upstream then, once it is whole or as it comes; the farewell of the last stream that the connection may have is owed before that.
 
 mod doing;
+mod outlet;
 mod taking;
 
+pub use crate::block_frames::outlet::Outlet;
 pub use crate::block_frames::taking::{BlockTaken, take_block};

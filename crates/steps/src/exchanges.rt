@@ -8,4 +8,4 @@ mod opening;
 
 pub use crate::exchanges::hearing::{end, fail, hear};
 pub(crate) use crate::exchanges::listening::stream_of;
-pub use crate::exchanges::opening::{open, send};
+pub use crate::exchanges::opening::{open, reuse, send};

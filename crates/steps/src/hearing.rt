@@ -14,7 +14,7 @@ ghost use Rattle.steps.specs.Stopping.{IfOver};
 use crate::exchanges;
 use crate::exchanges::stream_of;
 use crate::flushing::HIGH_WATER;
-use crate::paying::{note_client_took, note_up_took, return_dropped, return_taken};
+use crate::paying::{is_nothing, note_client_took, note_up_took, return_dropped, return_taken};
 use crate::resting::{Went, conclude, rest, rest_behind};
 use crate::stop::Stop;
 use outputs::Outputs;
@@ -27,17 +27,18 @@ fn hear_to_rest(
     rooms: &mut Rooms,
     k: u32,
     octets: &[u8],
+    keep: bool,
     out: &mut Outputs,
 ) -> Result<Went, Stop>
     requires admitted { admits rooms.old (Up k octets.now) ≡ true }
     requires settled { IsSettled rooms.old }
-    requires reached { (setup : Setup) × Reached setup rooms.old square }
-    ensures comes { IfOk result (λ went. (setup : Setup) → ComesFrom setup rooms.old square out.old (OfEvent (Up k octets.now) ∷ []) square (now_of went rooms.new) out.new) }
+    requires reached { (setup : Setup) × (keep ≡ setup.keep) × Reached setup rooms.old square }
+    ensures comes { IfOk result (λ went. (setup : Setup) → keep ≡ setup.keep → ComesFrom setup rooms.old square out.old (OfEvent (Up k octets.now) ∷ []) square (now_of went rooms.new) out.new) }
     ensures rests { IfOk result (λ went. RestsSo went rooms.new) }
-    ensures over { IfErr result (λ stop. IfOver stop ((setup : Setup) → ComesFrom setup rooms.old square out.old (OfEvent (Up k octets.now) ∷ []) square None out.new)) }
+    ensures over { IfErr result (λ stop. IfOver stop ((setup : Setup) → keep ≡ setup.keep → ComesFrom setup rooms.old square out.old (OfEvent (Up k octets.now) ∷ []) square None out.new)) }
 {
     let stream = stream_of(rooms, k);
-    let back = exchanges::hear(alloc, rooms, k, octets, out)?;
+    let back = exchanges::hear(alloc, rooms, k, octets, keep, out)?;
     return_dropped(rooms, back, out)?;
     rest_behind(alloc, rooms, stream, out)
 }
@@ -48,15 +49,16 @@ pub fn hear(
     rooms: &mut Rooms,
     k: u32,
     octets: &[u8],
+    keep: bool,
     out: &mut Outputs,
 ) -> Result<Went, AllocError>
     requires admitted { admits rooms.old (Up k octets.now) ≡ true }
     requires settled { IsSettled rooms.old }
-    requires reached { (setup : Setup) × Reached setup rooms.old square }
-    ensures comes { IfOk result (λ went. (setup : Setup) → ComesFrom setup rooms.old square out.old (OfEvent (Up k octets.now) ∷ []) square (now_of went rooms.new) out.new) }
+    requires reached { (setup : Setup) × (keep ≡ setup.keep) × Reached setup rooms.old square }
+    ensures comes { IfOk result (λ went. (setup : Setup) → keep ≡ setup.keep → ComesFrom setup rooms.old square out.old (OfEvent (Up k octets.now) ∷ []) square (now_of went rooms.new) out.new) }
     ensures rests { IfOk result (λ went. RestsSo went rooms.new) }
 {
-    conclude(hear_to_rest(alloc, rooms, k, octets, out))
+    conclude(hear_to_rest(alloc, rooms, k, octets, keep, out))
 }
 
 /// The end of an open upstream's connection, to where the gateway rests. An `Err` says that memory was refused, or that the connection to the client was ended
@@ -170,11 +172,11 @@ fn return_to_rest(
     ensures over { IfErr result (λ stop. IfOver stop ((setup : Setup) → ComesFrom setup rooms.old square out.old (OfEvent (UpTook k count) ∷ []) square None out.new)) }
 {
     let stream = stream_of(rooms, k);
-    let back = note_up_took(rooms, k, stream, count);
-    if back == 0 {
+    let taken = note_up_took(rooms, k, stream, count);
+    if is_nothing(taken) {
         return Ok(Went::On);
     }
-    return_taken(rooms, stream, back, out)?;
+    return_taken(rooms, stream, taken, out)?;
     rest(alloc, rooms, out)
 }
 

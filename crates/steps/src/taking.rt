@@ -10,6 +10,7 @@ ghost use Rattle.judgement.specs.AnyFrame.{has_fragment};
 ghost use Rattle.serving.specs.State as serving;
 ghost use Rattle.serving.specs.State.{is_streaming};
 ghost use Rattle.answers.specs.Waiting.{passing_in};
+ghost use Rattle.marks_kept.specs.Sides.{is_past};
 ghost use Rattle.upstreams.specs.Requests.{due_by};
 ghost use Rattle.relay.specs.View.{square};
 ghost use Rattle.relay.specs.Rest.{NoneCut, Reached};
@@ -21,9 +22,9 @@ ghost use Rattle.steps.specs.Inputs.Input.{OfFrame};
 ghost use Rattle.steps.specs.Resting.{now_of, IsSettled, RestsSo, IsPassedBy, IsServed};
 ghost use Rattle.steps.specs.Stopping.{IfOver, IsCalmed, EndsFrom};
 
-use crate::block_frames::{BlockTaken, take_block};
+use crate::block_frames::{BlockTaken, Outlet, take_block};
 use crate::ending::{Ending, end, shut};
-use crate::exchanges::{open, send};
+use crate::exchanges::{open, reuse, send};
 use crate::paying::{Control, pay, return_dropped, settle};
 use crate::plain_frames::{Taken, take_plain};
 use crate::resting::{Went, conclude, rest_behind};
@@ -53,6 +54,8 @@ pub struct Service<'a> {
     pub terms: Terms<'a>,
     /// How bodies are passed on: whole, those of responses with so many octets at most, or as they come.
     pub passing: Passing,
+    /// Whether connections to upstreams are kept for further requests (RFC 9112, section 9.3).
+    pub keep: bool,
 }
 
 /// Whether bodies are passed on as they come.
@@ -84,16 +87,18 @@ pub(crate) fn data_octets(view: View<'_>) -> u32
     }
 }
 
-/// Opens the connection for a request that is due, or sends what is due of one that goes out; no frame is owed then.
+/// Opens the connection for a request that is due, or gives it an idle one, or sends what is due of one that goes out; no frame is owed then.
 fn serve(rooms: &mut Rooms, due: Due, passing: Passing, out: &mut Outputs) -> Result<(), AllocError>
     requires reached { (setup : Setup) × IsPassedBy setup passing × (fresh back : ℕ) × Reached setup rooms.old (record square { due = due_by due; fresh = fresh; shared = back }) }
     ensures performs { OnOk result ((setup : Setup) (fresh back : ℕ) → IsPassedBy setup passing → PerformsOwn setup rooms.old (record square { due = due_by due; fresh = fresh; shared = back }) out.old rooms.new (record square { fresh = fresh; shared = back }) out.new) }
     ensures stays { OnOk result ((rooms.new.inbound ≡ rooms.old.inbound) × (rooms.new.offers ≡ rooms.old.offers)) }
     ensures none_but { OnOk result ((id : ℕ) → NoneDoneBut id rooms.old → NoneDoneBut id rooms.new) }
+    ensures newest { OnOk result (is_past rooms.old.inbound.last rooms.old.marks ≡ false → is_past rooms.old.inbound.last rooms.new.marks ≡ false) }
 {
     match due {
         Due::Nothing => Ok(()),
         Due::ToOpen(request) => open(rooms, request, passing, out),
+        Due::ToUse { number, request } => reuse(rooms, number, request, passing, out),
         Due::ToSend { number, text } => send(rooms, number, text, out),
     }
 }
@@ -111,6 +116,7 @@ fn follow(
     requires reached { (setup : Setup) × Reached setup rooms.old (record square { fresh = octets; shared = dropped }) }
     requires last { id ≡ rooms.old.inbound.last }
     requires few { octets ≤ 16384 }
+    requires newest { 0 < octets → is_past id rooms.old.marks ≡ false }
     requires none_cut { NoneCut rooms.old.offers }
     requires none_but { NoneDoneBut id rooms.old }
     requires numbered { (id : ℕ) → has rooms.old.inbound.rows id ≡ true → id < 2147483648 }
@@ -176,7 +182,11 @@ fn take_fragment(
     ensures over { IfErr result (λ stop. IfOver stop ((setup : Setup) → IsServed setup service.entry → ComesFrom setup rooms.old square out.old (OfFrame (frame_of view.entry) ∷ []) square None out.new)) }
 {
     let at_once = is_streaming(service.passing);
-    match take_block(rooms, view, service.terms, at_once, out)? {
+    let outlet = Outlet {
+        at_once,
+        keep: service.keep,
+    };
+    match take_block(rooms, view, service.terms, outlet, out)? {
         BlockTaken::Fatal(code) => {
             end(rooms, Ending::Frame(code), out)?;
             Ok(Went::Over)

@@ -14,7 +14,7 @@ use Rattle.model.specs.ResponseClause.{AreTogether}
 use Rattle.model.specs.Synchrony.{begins_part, AreFair}
 use Rattle.model.specs.Turns.{IsNextTurn}
 use Rattle.offering.specs.State.{Move, entry_of, ready, state_of}
-use Rattle.offering.specs.State.Move.{Takes, Breaks, Notes, Hears, Fails, Goes, Sends, Acts}
+use Rattle.offering.specs.State.Move.{Takes, Breaks, Notes, Hears, Fails, Idles, Goes, Sends, Acts}
 use Rattle.offering.specs.Policy.{Neighbours, windows_on, AreAllowed, Brings, BringsNone}
 use Rattle.offering.proofs.Flushing.{listed, run_holds}
 use Rattle.conduct.specs.After.{begun_after}
@@ -164,6 +164,7 @@ moves_follow known (Breaks breach ∷ ms) a g = same_follows (map entry_of ms) (
 moves_follow known (Notes event ∷ ms) a g = same_follows (map entry_of ms) (Happened event) (state_of ms).last refl refl (moves_follow known ms a.0 g)
 moves_follow known (Hears event stream news ∷ ms) a g = same_follows (map entry_of ms) (Happened event) (state_of ms).last refl refl (moves_follow known ms a.0 g)
 moves_follow known (Fails event stream ∷ ms) a g = same_follows (map entry_of ms) (Happened event) (state_of ms).last refl refl (moves_follow known ms a.0 g)
+moves_follow known (Idles event ∷ ms) a g = same_follows (map entry_of ms) (Happened event) (state_of ms).last refl refl (moves_follow known ms a.0 g)
 moves_follow known (Acts act ∷ ms) a g = same_follows (map entry_of ms) (Did act) (state_of ms).last refl refl (moves_follow known ms a.0 g)
 moves_follow known (Goes noted item part over ∷ ms) a g =
     let brings : Brings (map entry_of ms) noted item over = a.2.1 in
@@ -200,6 +201,7 @@ each_in_turn known (Breaks breach ∷ ms) a g b = each_in_turn known ms a.0 g b.
 each_in_turn known (Notes event ∷ ms) a g b = each_in_turn known ms a.0 g b.0
 each_in_turn known (Hears event stream news ∷ ms) a g b = each_in_turn known ms a.0 g b.0
 each_in_turn known (Fails event stream ∷ ms) a g b = each_in_turn known ms a.0 g b.0
+each_in_turn known (Idles event ∷ ms) a g b = each_in_turn known ms a.0 g b.0
 each_in_turn known (Acts act ∷ ms) a g b = each_in_turn known ms a.0 g b.0
 each_in_turn known (Goes noted item part over ∷ ms) a g b = (turn_had known ms noted a.0 a.1 g b.1, each_in_turn known ms a.0 g.1 b.0)
 each_in_turn known (Sends noted ∷ ms) a g b = (turn_had known ms noted a.0 a.1 g b.1, each_in_turn known ms a.0 g.1 b.0)

@@ -10,7 +10,7 @@ use Rattle.model.specs.Setup.Policy.{Indexing}
 use Rattle.model.specs.Setup.Passing.{Whole}
 use Rattle.model.specs.Tapes.{Noted, Entry}
 use Rattle.model.specs.Tapes.Note.{NoBlock, Fields}
-use Rattle.model.specs.Openings.{exchanges, AreNumbered, AreApart}
+use Rattle.model.specs.Openings.{exchanges, AreApart}
 use Rattle.model.specs.Available.{IsIn}
 use Rattle.model.specs.Known.{Known}
 use Rattle.model.specs.Causes.{reply_head}
@@ -201,7 +201,7 @@ fit = (
 -- ---- by what is on offer
 
 no_neighbours : (t : List Entry) → exchanges t ≡ [] → Neighbours elsewhere t
-no_neighbours t e = record { off = refl; numbered = subst AreNumbered (sym e) tt; apart = subst AreApart (sym e) tt; begun = λ o i. absurd (subst (IsIn o) e i) }
+no_neighbours t e = record { counted = λ o i. absurd (subst (IsIn o) e i); apart = subst AreApart (sym e) tt; begun = λ o i. absurd (subst (IsIn o) e i) }
 
 least : (k : ℕ) → k < 1 → 0 < slice_index (1 ∷ []) k → 1 ≤ slice_index (1 ∷ []) k
 least k lt some = some

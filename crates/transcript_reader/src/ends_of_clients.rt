@@ -2,12 +2,12 @@
 
 ghost use Rattle.gateway.specs.Setups.{setup_of, IsServable};
 
+use crate::messages::requests_in;
 use crate::runs::{Told, Upstream, drive};
-use crate::texts::{body_of, is_cut, place_of};
+use crate::texts::is_cut;
 use frames::{Split, View, split};
 use gateway::{Config, Event, Passing};
 use std::alloc::{AllocError, Global};
-use std::str;
 
 /// What was seen of the frames of a client: how many requests have ended, and whether the header block that is begun ends one.
 #[derive(Clone, Copy)]
@@ -52,52 +52,29 @@ fn ended_in(octets: &[u8]) -> usize {
     seen.ended
 }
 
-/// What stands before the length that a head declares.
-const LENGTH: &[u8] = b"\r\ncontent-length: ";
-
-/// The length that a request declares.
-fn declared(text: &[u8]) -> Option<usize> {
-    let place = place_of(text, LENGTH)?;
-    let value = text.get(place.saturating_add(LENGTH.len())..)?;
-    let end = place_of(value, b"\r\n")?;
-    str::from_utf8(value.get(..end)?).ok()?.parse().ok()
-}
-
-/// Whether the last chunk stands in a body, of which no chunk has a line of a single zero.
-fn has_last_chunk(body: &[u8]) -> bool {
-    body.starts_with(b"0\r\n") || place_of(body, b"\r\n0\r\n").is_some()
-}
-
-/// Whether a text is a whole request: behind its head stand chunks up to the last, with the end of the trailers, or as many octets as it
-/// declares, or none.
-fn is_whole_request(text: &[u8]) -> bool {
-    let Some(body) = body_of(text) else {
-        return false;
-    };
-    if place_of(text, b"\r\ntransfer-encoding: chunked\r\n").is_some() {
-        return has_last_chunk(body) && body.ends_with(b"\r\n\r\n");
-    }
-    body.len() == declared(text).unwrap_or(0)
-}
-
-/// How many of these upstreams were sent a whole request.
+/// How many whole requests these upstreams were sent.
 fn whole_requests(upstreams: &[Upstream]) -> usize {
     let mut count = 0usize;
     for upstream in upstreams {
-        if is_whole_request(&upstream.text) {
-            count = count.saturating_add(1);
-        }
+        count = count.saturating_add(requests_in(&upstream.text).count);
     }
     count
 }
 
-/// Whether all connections were closed, and were sent fronts of what they're sent in the whole run; where bodies are passed on whole, all of it.
+/// Whether a connection was sent whole requests alone, of which there are some.
+fn has_whole_requests(upstream: &Upstream) -> bool {
+    let found = requests_in(&upstream.text);
+    found.count > 0 && found.rest.is_empty()
+}
+
+/// Whether all connections were closed, and were sent fronts of what they're sent in the whole run; where bodies are passed on whole, whole
+/// requests alone.
 fn are_fronts(upstreams: &[Upstream], others: &[Upstream], passes_whole: bool) -> bool {
     for (upstream, other) in upstreams.iter().zip(others) {
         if !upstream.is_closed || !other.text.starts_with(&upstream.text) {
             return false;
         }
-        if passes_whole && upstream.text.len() < other.text.len() {
+        if passes_whole && !has_whole_requests(upstream) {
             return false;
         }
     }
@@ -108,13 +85,9 @@ fn are_fronts(upstreams: &[Upstream], others: &[Upstream], passes_whole: bool) -
 /// bodies are passed on whole, whole requests alone.
 fn is_left_well(told: &Told, whole: &Told, octets: &[u8], passing: Passing) -> bool {
     let passes_whole = matches!(passing, Passing::Whole);
-    let requests = whole_requests(&told.upstreams);
-    if passes_whole && requests != told.upstreams.len() {
-        return false;
-    }
     told.is_over
         && told.strays == 0
-        && requests <= ended_in(octets)
+        && whole_requests(&told.upstreams) <= ended_in(octets)
         && are_fronts(&told.upstreams, &whole.upstreams, passes_whole)
 }
 

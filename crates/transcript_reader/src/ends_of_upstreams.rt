@@ -2,8 +2,9 @@
 
 ghost use Rattle.gateway.specs.Setups.{setup_of, IsServable};
 
+use crate::messages::Heard;
 use crate::runs::{Told, Upstream, drive};
-use crate::texts::{body_of, is_cut, place_of};
+use crate::texts::{is_cut, place_of};
 use frames::{Split, View, split};
 use gateway::{Config, Event, Passing};
 use std::alloc::{AllocError, Global};
@@ -59,55 +60,59 @@ fn is_replied(octets: &[u8]) -> bool {
     }
 }
 
-/// Whether octets are a frame of DATA that ends stream 1 with this.
-fn ends_with_data(octets: &[u8], body: &[u8]) -> bool {
+/// Whether octets are a frame of DATA that ends a stream with this.
+fn ends_with_data(octets: &[u8], stream: u32, body: &[u8]) -> bool {
     match split(octets) {
         Split::Frame(view, used) => {
-            let is_end = view.kind == 0 && view.id == 1 && view.flags == 1;
+            let is_end = view.kind == 0 && view.id == stream && view.flags == 1;
             is_end && view.payload == body && used == octets.len()
         }
         _ => false,
     }
 }
 
-/// Whether octets are the status 200 and this body, all of a response on stream 1.
-fn is_response(octets: &[u8], body: &[u8]) -> bool {
+/// Whether octets are the status 200 and this body, all of a response on a stream.
+fn is_response(octets: &[u8], stream: u32, body: &[u8]) -> bool {
     let Split::Frame(head, used) = split(octets) else {
         return false;
     };
-    if head.kind != 1 || head.id != 1 || head.payload != STATUS_200 {
+    if head.kind != 1 || head.id != stream || head.payload != STATUS_200 {
         return false;
     }
     let rest = octets.get(used..).unwrap_or(&[]);
     if body.is_empty() {
         return head.flags == 5 && rest.is_empty();
     }
-    head.flags == 4 && ends_with_data(rest, body)
+    head.flags == 4 && ends_with_data(rest, stream, body)
 }
 
-/// What was heard behind interim heads.
-fn behind_hints(heard: &[u8]) -> &[u8] {
-    let mut rest = heard;
-    for _ in 0..heard.len() {
-        if !rest.starts_with(b"HTTP/1.1 1") {
-            return rest;
-        }
-        match body_of(rest) {
-            Some(behind) => rest = behind,
-            None => return rest,
-        }
+/// Whether octets begin with a frame of a stream.
+fn is_of_stream(octets: &[u8], stream: u32) -> bool {
+    match split(octets) {
+        Split::Frame(view, _) => view.id == stream,
+        _ => false,
     }
-    rest
 }
 
-/// Whether what is put out last is right where an upstream ends, or fails, of which this was heard: where the end completes the response (in the tables, one of
-/// HTTP/1.0 without a length), all of it, or what is left; else 502, or a reset where the response's head went out.
-fn is_told_well(last: &[u8], heard: &[u8], is_end: bool, passing: Passing) -> bool {
-    let body = body_of(behind_hints(heard));
-    let is_ended = is_end && heard.starts_with(b"HTTP/1.0");
-    match (body, passing) {
-        (Some(body), Passing::Whole) if is_ended => is_response(last, body),
-        (Some(_), Passing::Streaming) if is_ended => ends_with_data(last, b""),
+/// Whether what is put out last is right where an upstream ends, or fails, whose response on a stream was heard so far: where the end completes that, all of it, or what
+/// is left; else 502, or a reset where the response's head went out.
+fn is_told_well(
+    last: &[u8],
+    stream: u32,
+    heard: Option<Heard<'_>>,
+    is_end: bool,
+    passing: Passing,
+) -> bool {
+    if !is_of_stream(last, stream) {
+        return false;
+    }
+    match (heard, passing) {
+        (Some(heard), Passing::Whole) if is_end && heard.ends_with_connection() => {
+            is_response(last, stream, heard.body)
+        }
+        (Some(heard), Passing::Streaming) if is_end && heard.ends_with_connection() => {
+            ends_with_data(last, stream, b"")
+        }
         (Some(_), Passing::Streaming) => is_reset(last, 2),
         _ => is_replied(last),
     }
@@ -124,24 +129,27 @@ fn are_others_alike(upstreams: &[Upstream], others: &[Upstream], k: u32) -> bool
 }
 
 /// Whether what is put out for the client is right where an upstream ends, or fails. Where its connection was closed before, that is what is put out where
-/// the whole piece comes, whose front decided it (`whole`); where the client takes nothing it is nothing yet.
+/// the whole piece comes, whose front decided it (`whole`), and so it is where the connection is idle; where the client takes nothing it is nothing yet.
 fn is_ended_well(told: &Told, whole: &Told, k: u32, is_end: bool, passing: Passing) -> bool {
     if told.strays > 0 || !are_others_alike(&told.upstreams, &whole.upstreams, k) {
         return false;
     }
+    let is_same = told.client.as_slice() == whole.client.as_slice();
     if !told.came {
-        return told.client.as_slice() == whole.client.as_slice();
+        return is_same;
     }
+    let Some(upstream) = told.upstream(k) else {
+        return false;
+    };
     let last = told.last_of_client();
+    let heard = upstream.response();
+    if upstream.is_idle() {
+        return upstream.is_closed && last.is_empty() && is_same;
+    }
     if told.untaken_before() >= 65536 {
         return last.is_empty();
     }
-    match told.upstream(k) {
-        Some(upstream) => {
-            upstream.is_closed && is_told_well(last, &upstream.heard, is_end, passing)
-        }
-        None => false,
-    }
+    upstream.is_closed && is_told_well(last, upstream.stream, heard, is_end, passing)
 }
 
 /// The first cut of a piece at which it is wrong what is put out, where the upstream ends or fails there.
@@ -189,6 +197,50 @@ fn wrong_cut(
     Ok(None)
 }
 
+/// The octets of the client's preface.
+const PREFACE: usize = 24;
+
+/// How many octets the first frame of a client's octets has, or the preface, if that begins them.
+fn first_frame(octets: &[u8]) -> usize {
+    if octets.starts_with(b"PRI") {
+        return PREFACE;
+    }
+    match split(octets) {
+        Split::Frame(_, used) => used,
+        _ => octets.len(),
+    }
+}
+
+/// Adds octets of the client, each frame by itself, so that what is put out behind one is of its stream.
+fn push_frames(alloc: Global, piece: &[u8], events: &mut Vec<Event>) -> Result<(), AllocError> {
+    let mut rest = piece;
+    for _ in 0..piece.len() {
+        if rest.is_empty() {
+            return Ok(());
+        }
+        let used = first_frame(rest);
+        let frame = rest.get(..used).unwrap_or(rest);
+        events.push(Event::Client(Vec::from_slice(alloc, frame)?))?;
+        rest = rest.get(used..).unwrap_or(&[]);
+    }
+    Ok(())
+}
+
+/// Adds an event once more, with each frame of the client by itself.
+fn push_event(alloc: Global, event: &Event, events: &mut Vec<Event>) -> Result<(), AllocError> {
+    let copied = match event {
+        Event::Client(piece) => return push_frames(alloc, piece, events),
+        Event::ClientEnd => Event::ClientEnd,
+        Event::ClientTook(count) => Event::ClientTook(*count),
+        Event::Up(k, piece) => Event::Up(*k, Vec::from_slice(alloc, piece)?),
+        Event::UpEnd(k) => Event::UpEnd(*k),
+        Event::UpFailed(k) => Event::UpFailed(*k),
+        Event::UpTook(k, count) => Event::UpTook(*k, *count),
+    };
+    events.push(copied)?;
+    Ok(())
+}
+
 /// The first event of an upstream behind an octet of which it ends or fails and something else is put out than there should be.
 pub(crate) fn difference(
     alloc: Global,
@@ -197,14 +249,15 @@ pub(crate) fn difference(
 ) -> Result<Option<String>, AllocError>
     requires { IsServable (setup_of config.now) }
 {
+    let mut before = Vec::new(alloc);
     for (place, event) in events.iter().enumerate() {
         if let Event::Up(k, piece) = event {
-            let before = events.get(..place).unwrap_or(&[]);
-            if let Some(cut) = wrong_cut(alloc, config, before, *k, piece)? {
+            if let Some(cut) = wrong_cut(alloc, config, &before, *k, piece)? {
                 let number = place.saturating_add(1);
                 return Ok(Some(format!(in alloc; "event {number}, octet {cut}")?));
             }
         }
+        push_event(alloc, event, &mut before)?;
     }
     Ok(None)
 }

@@ -15,6 +15,7 @@
 mod ends_of_clients;
 mod ends_of_upstreams;
 mod judgements;
+mod messages;
 mod notation;
 mod octets;
 mod printing;

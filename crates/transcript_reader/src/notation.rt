@@ -25,6 +25,9 @@ const REST_OF_BLOCK: &str = "8684410f7777772e6578616d706c652e636f6d";
 const GET: &str =
     "GET / HTTP/1.1\r\nhost: www.example.com\r\nvia: 2.0 h2gw\r\nconnection: close\r\n\r\n";
 
+/// The same on a connection that is kept.
+const GET_KEPT: &str = "GET / HTTP/1.1\r\nhost: www.example.com\r\nvia: 2.0 h2gw\r\n\r\n";
+
 /// The front of the request upstream of POST, up to the line that frames its body.
 const POST: &str = "POST / HTTP/1.1\r\nhost: www.example.com\r\nvia: 2.0 h2gw\r\n";
 
@@ -68,6 +71,7 @@ fn push_meaning(words: &str, hex: &mut String) -> Result<(), AllocError> {
         "B" => write!(hex, "83{REST_OF_BLOCK}"),
         // Texts of requests.
         "GET" => push_text(GET, hex),
+        "GETKEPT" => push_text(GET_KEPT, hex),
         "POST" => push_text(POST, hex),
         "CLOSE" => push_text(CLOSE, hex),
         other => write!(hex, "({other})"),

@@ -4,19 +4,65 @@ ghost use Rattle.gateway.specs.Setups.{setup_of, IsServable};
 ghost use Rattle.std.specs.Prelude.{IfOk};
 ghost use Rattle.transcript_reader.specs.Driven.{IsDriven};
 
+use crate::messages::{Heard, requests_in};
+use frames::{Split, split};
 use gateway::{Config, Event, Gateway, Output};
 use std::alloc::{AllocError, Global};
 
-/// What became of a connection to an upstream: its route, what was put out for it and what came of it.
+/// What became of a connection to an upstream: its route; what was put out for it; where in that the last request begins, and its stream; and what
+/// came of it since.
 #[derive(Drop)]
 pub struct Upstream {
     pub route: u32,
     pub text: Vec<u8>,
+    begins: usize,
+    pub stream: u32,
     pub heard: Vec<u8>,
     pub is_closed: bool,
 }
 
 impl Upstream {
+    /// A connection that was opened by a route for a stream.
+    fn opened(alloc: Global, route: u32, stream: u32) -> Upstream {
+        Upstream {
+            route,
+            text: Vec::new(alloc),
+            begins: 0,
+            stream,
+            heard: Vec::new(alloc),
+            is_closed: false,
+        }
+    }
+
+    /// The last request, as far as it was put out.
+    fn request(&self) -> &[u8] {
+        self.text.get(self.begins..).unwrap_or(&[])
+    }
+
+    /// The response to it as far as it was heard, if its final head was.
+    pub(crate) fn response(&self) -> Option<Heard<'_>> {
+        Heard::read(&self.heard, self.request().starts_with(b"HEAD "))
+    }
+
+    /// Whether the last request and its response are whole, with no octet behind that.
+    pub(crate) fn is_idle(&self) -> bool {
+        let requests = requests_in(self.request());
+        match self.response() {
+            Some(heard) => requests.count == 1 && requests.rest.is_empty() && heard.is_whole(),
+            None => false,
+        }
+    }
+
+    /// Notes what was put out for it behind a frame of this stream: where it was idle, that begins another request.
+    fn put(&mut self, octets: &[u8], stream: u32) -> Result<(), AllocError> {
+        if !self.heard.is_empty() && self.is_idle() {
+            self.begins = self.text.len();
+            self.stream = stream;
+            self.heard.clear();
+        }
+        self.text.extend_from_slice(octets)
+    }
+
     /// Whether the same was put out for both.
     fn is_same(&self, other: &Upstream) -> bool {
         self.route == other.route
@@ -39,6 +85,8 @@ pub struct Told {
     pub came: bool,
     /// How many events couldn't come though what they belong to was open.
     pub strays: u32,
+    /// The stream of the client's last frame, where each came by itself.
+    stream: u32,
 }
 
 impl Told {
@@ -52,6 +100,7 @@ impl Told {
             before: 0,
             came: false,
             strays: 0,
+            stream: 0,
         }
     }
 
@@ -99,15 +148,14 @@ impl Told {
     fn note_output(&mut self, alloc: Global, output: &Output) -> Result<(), AllocError> {
         match output {
             Output::Client(octets) => self.client.extend_from_slice(octets)?,
-            Output::Open(_, route) => self.upstreams.push(Upstream {
-                route: *route,
-                text: Vec::new(alloc),
-                heard: Vec::new(alloc),
-                is_closed: false,
-            })?,
+            Output::Open(_, route) => {
+                let upstream = Upstream::opened(alloc, *route, self.stream);
+                self.upstreams.push(upstream)?;
+            }
             Output::Up(k, octets) => {
+                let stream = self.stream;
                 if let Some(upstream) = self.upstream_mut(*k) {
-                    upstream.text.extend_from_slice(octets.as_slice())?;
+                    upstream.put(octets.as_slice(), stream)?;
                 }
             }
             Output::Close(k) => self.note_closed(*k),
@@ -116,9 +164,19 @@ impl Told {
         Ok(())
     }
 
+    /// Notes the stream of octets of the client that are just one frame.
+    fn note_frame(&mut self, octets: &[u8]) {
+        if let Split::Frame(view, used) = split(octets) {
+            if used == octets.len() {
+                self.stream = view.id;
+            }
+        }
+    }
+
     /// Notes what an event that came tells by itself.
     fn note_event(&mut self, event: &Event) -> Result<(), AllocError> {
         match event {
+            Event::Client(octets) => self.note_frame(octets),
             Event::ClientTook(count) => self.taken = self.taken.saturating_add(*count),
             Event::UpFailed(k) => self.note_closed(*k),
             Event::Up(k, octets) => {

@@ -5,7 +5,7 @@ use Rattle.std.specs.List.{remove}
 use Rattle.std.proofs.lemmas.Bool.{eq-eqb, ne_eqb}
 use Rattle.std.proofs.lemmas.Bool.Decides.{eqb_tells}
 use Rattle.std.proofs.lemmas.List.{append_assoc, reverse-append, map-append, length-reverse, length-take-le, length-drop, get_or-reverse, get_or-take, get_or-drop, set_split, set-get_or}
-use Rattle.serving.specs.State.{find, without}
+use Rattle.serving.specs.Lines.{find, without}
 use Rattle.upstreams.specs.Places.{IsAt, IsNowhere}
 
 module _ {A : Type 0} (key : A → ℕ) (d : A) where

@@ -11,9 +11,11 @@ use Rattle.std.proofs.lemmas.Bool.{cases_lt, eq-eqb, ne_eqb}
 use Rattle.std.proofs.lemmas.Bool.Decides.{nat_tests}
 use Rattle.std.proofs.lemmas.List.{reverse-append, length-reverse, get_or-reverse}
 use Rattle.answers.specs.Waiting.{Answer}
-use Rattle.serving.specs.State.{find, without}
+use Rattle.serving.specs.Lines as serving
+use Rattle.serving.specs.Lines.{find, without}
+use Rattle.serving.specs.Lines.Answer.{Pending}
 use Rattle.upstreams.specs.Places.{IsNowhere}
-use Rattle.upstreams.specs.Connections.{Connection, number_of, stream_of, no_connection, IsOpenAt, IsOpenNowhere, AreBelow, AreRising, whole_at, answer_at, put_at, taken_at}
+use Rattle.upstreams.specs.Connections.{Connection, number_of, works_for, no_connection, IsOpenAt, IsOpenNowhere, AreBelow, AreRising, marked_at, given_at, answer_at, put_at, taken_at}
 use Rattle.upstreams.proofs.Lists.{IsOnly, find_none, find_only, without_none, without_only, map_none, map_only, turned_none, turned_alone}
 
 -- the number at a place
@@ -42,7 +44,7 @@ once top cs below i j l m same = elim (cases_lt i j) [
   ]
 ]
 
-weaker : (low top : ℕ) (cs : List Connection) → low ≤ top → AreBelow low cs → AreBelow top cs
+pub weaker : (low top : ℕ) (cs : List Connection) → low ≤ top → AreBelow low cs → AreBelow top cs
 weaker low top [] le below = tt
 weaker low top (c ∷ cs) le below = (let first = below.0 in omega (arith, first, le), below.1)
 
@@ -122,11 +124,17 @@ module _ (cs : List Connection) (rising : AreRising cs) (k place : ℕ) (is : Is
   other : (c : Connection) → (number_of c ≡ k → ⊥) → (c.live.k == k) ≡ false
   other c apart = ne_eqb c.live.k k apart
 
-  pub whole_there : reverse (set cs place (record it { live = record it.live { whole = true } })) ≡ map (whole_at k) (reverse cs)
-  whole_there = changed (whole_at k)
-      (λ c apart. ap (λ b. let n : Connection = record c { live = record c.live { whole = if b then true else c.live.whole } } in n) (other c apart))
-      (record it { live = record it.live { whole = true } })
-      (ap (λ b. let n : Connection = record it { live = record it.live { whole = if b then true else it.live.whole } } in n) (sym own))
+  pub marked_there : (progress : serving.Answer) → reverse (set cs place (record it { live = record it.live { answer = progress } })) ≡ map (marked_at k progress) (reverse cs)
+  marked_there progress = changed (marked_at k progress)
+      (λ c apart. ap (λ b. let n : Connection = record c { live = record c.live { answer = if b then progress else c.live.answer } } in n) (other c apart))
+      (record it { live = record it.live { answer = progress } })
+      (ap (λ b. let n : Connection = record it { live = record it.live { answer = if b then progress else it.live.answer } } in n) (sym own))
+
+  pub given_there : (stream : ℕ) (answer : Answer) → reverse (set cs place (record it { live = record it.live { stream = stream; answer = Pending }; answer = answer })) ≡ map (given_at k stream answer) (reverse cs)
+  given_there stream answer = changed (given_at k stream answer)
+      (λ c apart. ap (λ b. let n : Connection = record c { live = record c.live { stream = if b then stream else c.live.stream; answer = if b then Pending else c.live.answer }; answer = if b then answer else c.answer } in n) (other c apart))
+      (record it { live = record it.live { stream = stream; answer = Pending }; answer = answer })
+      (ap (λ b. let n : Connection = record it { live = record it.live { stream = if b then stream else it.live.stream; answer = if b then Pending else it.live.answer }; answer = if b then answer else it.answer } in n) (sym own))
 
   pub answer_there : (answer : Answer) → reverse (set cs place (record it { answer = answer })) ≡ map (answer_at k answer) (reverse cs)
   answer_there answer = changed (answer_at k answer)
@@ -161,8 +169,12 @@ module _ (cs : List Connection) (k : ℕ) (none : IsOpenNowhere cs k) where
   pub none_changed : (f : Connection → Connection) → ((c : Connection) → (number_of c ≡ k → ⊥) → f c ≡ c) → map f (reverse cs) ≡ reverse cs
   none_changed f same = map_none number_of no_connection f k (reverse cs) same turned
 
-  pub none_whole : reverse cs ≡ map (whole_at k) (reverse cs)
-  none_whole = sym (none_changed (whole_at k) (λ c apart. ap (λ b. let n : Connection = record c { live = record c.live { whole = if b then true else c.live.whole } } in n) (ne_eqb c.live.k k apart)))
+  pub none_marked : (progress : serving.Answer) → reverse cs ≡ map (marked_at k progress) (reverse cs)
+  none_marked progress = sym (none_changed (marked_at k progress) (λ c apart. ap (λ b. let n : Connection = record c { live = record c.live { answer = if b then progress else c.live.answer } } in n) (ne_eqb c.live.k k apart)))
+
+  pub none_given : (stream : ℕ) (answer : Answer) → reverse cs ≡ map (given_at k stream answer) (reverse cs)
+  none_given stream answer = sym (none_changed (given_at k stream answer)
+      (λ c apart. ap (λ b. let n : Connection = record c { live = record c.live { stream = if b then stream else c.live.stream; answer = if b then Pending else c.live.answer }; answer = if b then answer else c.answer } in n) (ne_eqb c.live.k k apart)))
 
   pub none_answer : (answer : Answer) → reverse cs ≡ map (answer_at k answer) (reverse cs)
   none_answer answer = sym (none_changed (answer_at k answer) (λ c apart. ap (λ b. let n : Connection = record c { answer = if b then answer else c.answer } in n) (ne_eqb c.live.k k apart)))
@@ -176,12 +188,12 @@ module _ (cs : List Connection) (k : ℕ) (none : IsOpenNowhere cs k) where
 -- ---- walks from the newest on
 
 -- the newest connection is the first that is found
-pub newest_found : (id : ℕ) (cs : List Connection) (c : Connection) → c.live.stream ≡ id → find stream_of id (reverse (push cs c)) ≡ Some c
+pub newest_found : (id : ℕ) (cs : List Connection) (c : Connection) → works_for c ≡ id → find works_for id (reverse (push cs c)) ≡ Some c
 newest_found id cs c same =
-    ap (find stream_of id) (reverse-append cs (c ∷ []))
-    ∙ ap (λ b. if b then Some c else find stream_of id (reverse cs)) (eq-eqb c.live.stream id same)
+    ap (find works_for id) (reverse-append cs (c ∷ []))
+    ∙ ap (λ b. if b then Some c else find works_for id (reverse cs)) (eq-eqb (works_for c) id same)
 
-pub newest_other : (id : ℕ) (cs : List Connection) (c : Connection) → (c.live.stream ≡ id → ⊥) → find stream_of id (reverse (push cs c)) ≡ find stream_of id (reverse cs)
+pub newest_other : (id : ℕ) (cs : List Connection) (c : Connection) → (works_for c ≡ id → ⊥) → find works_for id (reverse (push cs c)) ≡ find works_for id (reverse cs)
 newest_other id cs c apart =
-    ap (find stream_of id) (reverse-append cs (c ∷ []))
-    ∙ ap (λ b. if b then Some c else find stream_of id (reverse cs)) (ne_eqb c.live.stream id apart)
+    ap (find works_for id) (reverse-append cs (c ∷ []))
+    ∙ ap (λ b. if b then Some c else find works_for id (reverse cs)) (ne_eqb (works_for c) id apart)

@@ -1,15 +1,17 @@
 -- What is held of requests, where it is found, changed and taken out.
 use Rattle.std.proofs.Common.{◌≡◌, ℕ, ◌<◌, ◌≤◌, Bool, true, false, List, [], ◌∷◌, ◌++◌, length, map, take, drop, set, get_or, Some, None, refl, sym, ap, ◌∙◌, subst, arith}
-use Rattle.std.specs.Prelude.{Option, zero, suc, reverse, option_map}
+use Rattle.std.specs.Prelude.{Option, zero, suc, reverse, option_map, is_some, IfSome, IfNone}
 use Rattle.std.specs.List.{remove}
 use Rattle.std.proofs.lemmas.List.{reverse-append, map-append, set-get_or}
 use Rattle.model.specs.Messages.{Field}
-use Rattle.serving.specs.State.{Way, Held, Due, id_of, held_of, held_at, held_with, with_way, without, drop_from}
+use Rattle.serving.specs.Lines.{Line, without}
+use Rattle.serving.specs.State.{Way, Held, Due, id_of, held_of, held_at, held_with, with_way, to_send, drop_from}
 use Rattle.serving.specs.State.Way.{Waiting, Going, Dropped}
 use Rattle.serving.specs.State.Due.{Nothing}
+use Rattle.h1_writer.specs.Sending.{Stage}
 use Rattle.serving.specs.Held.{AreApart}
 use Rattle.serving.proofs.Lists.{way_of_own, way_of_other, find_map}
-use Rattle.upstreams.specs.Requests.{no_held, IsHeldAt, IsHeldNowhere, MayTake, MayTakeOf, GoesBy, Takes, TakesBy}
+use Rattle.upstreams.specs.Requests.{no_held, on_idle, IsHeldAt, IsHeldNowhere, MayTake, MayTakeOf, Gathers, GoesBy, Takes, TakesBy}
 use Rattle.upstreams.proofs.Lists.{IsOnly, find_none, find_only, without_none, without_only, map_only, turned_none, turned_alone, nowhere}
 
 -- a stream that is held stands at one place
@@ -51,20 +53,20 @@ module _ (hs : List Held) (apart : AreApart (reverse hs)) (id place : ℕ) where
     may_there octets ends may = subst (MayTakeOf octets ends) found may
 
     -- it stays as it is, where it is dropped
-    pub stays_there : (octets : List ℕ) (trailers : List Field) (ends : Bool) → it.way ≡ Dropped → Takes id octets trailers ends (reverse hs) (held_of id (reverse hs)) Nothing (reverse hs)
+    pub stays_there : (octets : List ℕ) (trailers : List Field) (ends : Bool) → it.way ≡ Dropped → Takes [] id octets trailers ends (reverse hs) (held_of id (reverse hs)) Nothing (reverse hs)
     stays_there octets trailers ends e =
-        subst (λ (o : Option Held). Takes id octets trailers ends (reverse hs) o Nothing (reverse hs)) (sym found)
-        (subst (λ (way : Way). TakesBy id octets trailers ends (reverse hs) way Nothing (reverse hs)) (sym e) (refl, refl))
+        subst (λ (o : Option Held). Takes [] id octets trailers ends (reverse hs) o Nothing (reverse hs)) (sym found)
+        (subst (λ (way : Way). TakesBy [] id octets trailers ends (reverse hs) way Nothing (reverse hs)) (sym e) (refl, refl))
 
     -- more of its body came
-    pub goes_there : (octets : List ℕ) (trailers : List Field) (ends : Bool) (due : Due) (x : Held) → ends ≡ false → x.id ≡ it.id → GoesBy it.id octets trailers false it.way due (Some x.way)
-        → Takes id octets trailers ends (reverse hs) (held_of id (reverse hs)) due (reverse (set hs place x))
+    pub goes_there : (octets : List ℕ) (trailers : List Field) (ends : Bool) (due : Due) (x : Held) → ends ≡ false → x.id ≡ it.id → GoesBy [] it.id octets trailers false it.way due (Some x.way)
+        → Takes [] id octets trailers ends (reverse hs) (held_of id (reverse hs)) due (reverse (set hs place x))
     goes_there octets trailers ends due x e same goes =
-        subst (λ b. Takes id octets trailers b (reverse hs) (held_of id (reverse hs)) due (reverse (set hs place x))) (sym e)
-        (subst (λ (o : Option Held). Takes id octets trailers false (reverse hs) o due (reverse (set hs place x))) (sym found)
-        (by it.way refl (subst (λ n. GoesBy n octets trailers false it.way due (Some x.way)) is.has_key goes)))
+        subst (λ b. Takes [] id octets trailers b (reverse hs) (held_of id (reverse hs)) due (reverse (set hs place x))) (sym e)
+        (subst (λ (o : Option Held). Takes [] id octets trailers false (reverse hs) o due (reverse (set hs place x))) (sym found)
+        (by it.way refl (subst (λ n. GoesBy [] n octets trailers false it.way due (Some x.way)) is.has_key goes)))
       where
-        by : (way : Way) → it.way ≡ way → GoesBy id octets trailers false way due (Some x.way) → TakesBy id octets trailers false (reverse hs) way due (reverse (set hs place x))
+        by : (way : Way) → it.way ≡ way → GoesBy [] id octets trailers false way due (Some x.way) → TakesBy [] id octets trailers false (reverse hs) way due (reverse (set hs place x))
         by (Waiting route text old body) e g = (Some x.way, g, held_on x same)
         by (Going k old) e g = (Some x.way, g, held_on x same)
         by Dropped e g =
@@ -77,15 +79,15 @@ module _ (hs : List Held) (apart : AreApart (reverse hs)) (id place : ℕ) where
             )
 
     -- its body ended
-    pub ends_there : (octets : List ℕ) (trailers : List Field) (ends : Bool) (due : Due) (left : List Held) → ends ≡ true → left ≡ remove hs place → (it.way ≡ Dropped → ⊥) → GoesBy it.id octets trailers true it.way due None
-        → Takes id octets trailers ends (reverse hs) (held_of id (reverse hs)) due (reverse left)
+    pub ends_there : (octets : List ℕ) (trailers : List Field) (ends : Bool) (due : Due) (left : List Held) → ends ≡ true → left ≡ remove hs place → (it.way ≡ Dropped → ⊥) → GoesBy [] it.id octets trailers true it.way due None
+        → Takes [] id octets trailers ends (reverse hs) (held_of id (reverse hs)) due (reverse left)
     ends_there octets trailers ends due left e same on goes =
-        subst (λ ys. Takes id octets trailers ends (reverse hs) (held_of id (reverse hs)) due (reverse ys)) (sym same)
-        (subst (λ b. Takes id octets trailers b (reverse hs) (held_of id (reverse hs)) due (reverse (remove hs place))) (sym e)
-        (subst (λ (o : Option Held). Takes id octets trailers true (reverse hs) o due (reverse (remove hs place))) (sym found)
-        (by it.way refl (subst (λ n. GoesBy n octets trailers true it.way due None) is.has_key goes))))
+        subst (λ ys. Takes [] id octets trailers ends (reverse hs) (held_of id (reverse hs)) due (reverse ys)) (sym same)
+        (subst (λ b. Takes [] id octets trailers b (reverse hs) (held_of id (reverse hs)) due (reverse (remove hs place))) (sym e)
+        (subst (λ (o : Option Held). Takes [] id octets trailers true (reverse hs) o due (reverse (remove hs place))) (sym found)
+        (by it.way refl (subst (λ n. GoesBy [] n octets trailers true it.way due None) is.has_key goes))))
       where
-        by : (way : Way) → it.way ≡ way → GoesBy id octets trailers true way due None → TakesBy id octets trailers true (reverse hs) way due (reverse (remove hs place))
+        by : (way : Way) → it.way ≡ way → GoesBy [] id octets trailers true way due None → TakesBy [] id octets trailers true (reverse hs) way due (reverse (remove hs place))
         by (Waiting route text old body) e g = (None, g, sym taken_out)
         by (Going k old) e g = (None, g, sym taken_out)
         by Dropped e g = absurd (on e)
@@ -102,8 +104,41 @@ module _ (hs : List Held) (id : ℕ) (none : IsHeldNowhere hs id) where
   pub held_new : (way : Way) → reverse (hs ++ record { id = id; way = way } ∷ []) ≡ held_with id (Some way) (reverse hs)
   held_new way = reverse-append hs (record { id = id; way = way } ∷ []) ∙ ap (λ o. held_at id way o (reverse hs)) (sym not_found)
 
-  pub none_there : (octets : List ℕ) (trailers : List Field) (ends : Bool) → Takes id octets trailers ends (reverse hs) (held_of id (reverse hs)) Nothing (reverse hs)
-  none_there octets trailers ends = subst (λ (o : Option Held). Takes id octets trailers ends (reverse hs) o Nothing (reverse hs)) (sym not_found) (refl, refl)
+  pub none_there : (octets : List ℕ) (trailers : List Field) (ends : Bool) → Takes [] id octets trailers ends (reverse hs) (held_of id (reverse hs)) Nothing (reverse hs)
+  none_there octets trailers ends = subst (λ (o : Option Held). Takes [] id octets trailers ends (reverse hs) o Nothing (reverse hs)) (sym not_found) (refl, refl)
+
+-- ---- where connections are idle
+
+-- octets that are due on a connection stay due there
+sent_stays : (ls : List Line) (k : ℕ) (octets : List ℕ) → on_idle ls (to_send k octets) ≡ to_send k octets
+sent_stays ls k [] = refl
+sent_stays ls k (octet ∷ octets) = refl
+
+-- what is due where none is idle is so where some are, with the least in the place of one that is to be opened
+pub takes_idle : (ls : List Line) (id : ℕ) (octets : List ℕ) (trailers : List Field) (ends : Bool) (hs new : List Held) (o : Option Held) (due : Due)
+    → Takes [] id octets trailers ends hs o due new → Takes ls id octets trailers ends hs o (on_idle ls due) new
+takes_idle ls id octets trailers ends hs new None due takes = (ap (on_idle ls) takes.0, takes.1)
+takes_idle ls id octets trailers ends hs new (Some h) due takes = by h.way takes
+  where
+    gathers : (b : Bool) (route : ℕ) (text : List ℕ) (stage : Stage) (body : List ℕ) (next : Option Way) → Gathers [] id octets trailers b route text stage body due next → Gathers ls id octets trailers b route text stage body (on_idle ls due) next
+    gathers true route text stage body next g = (record { written = g.0.written; continues = g.0.continues; due_is = ap (on_idle ls) g.0.due_is }, g.1)
+    gathers false route text stage body next g = (ap (on_idle ls) g.0, g.1)
+
+    by : (way : Way) → TakesBy [] id octets trailers ends hs way due new → TakesBy ls id octets trailers ends hs way (on_idle ls due) new
+    by (Waiting route text stage body) g = (g.0, gathers ends route text stage body g.0 g.1, g.2)
+    by (Going k old) g = (
+      g.0,
+      record {
+        written = g.1.written;
+        stage = g.1.stage;
+        continues = g.1.continues;
+        whole = g.1.whole;
+        due_is = ap (on_idle ls) g.1.due_is ∙ sent_stays ls k g.1.written;
+        next_is = g.1.next_is;
+      },
+      g.2,
+    )
+    by Dropped g = (ap (on_idle ls) g.0, g.1)
 
 -- ---- where a connection is closed
 
@@ -157,3 +192,8 @@ dropped_out k i n hs now front past all =
     ap (λ m. reverse (take m (now ++ drop (length now) hs))) all
     ∙ ap reverse (front_taken now (drop (length now) hs) ∙ front ∙ dropped_past k i hs past)
     ∙ dropped_turned k hs
+
+-- something is held just where there is a place of it
+pub holds_at : (hs : List Held) → AreApart (reverse hs) → (id : ℕ) (place : Option ℕ) → IfSome place (IsHeldAt hs id) → IfNone place (IsHeldNowhere hs id) → is_some place ≡ is_some (held_of id (reverse hs))
+holds_at hs apart id None there nowhere = sym (ap is_some (not_found hs id nowhere))
+holds_at hs apart id (Some place) there nowhere = sym (ap is_some (found hs apart id place there))

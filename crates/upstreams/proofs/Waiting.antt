@@ -23,7 +23,7 @@ is_held id way hs = by (held_of id hs) refl
         ∙ ap Some (way_of_own id way h own)
         ∙ ap (λ n. let o : Option Held = Some (record { id = n; way = way }) in o) own
 
-module _ (old new : State) (id route : ℕ) (parts : HeadParts) (due : Due) (b : Begins old id route parts false false due new) (none : parts.length ≡ None) where
+module _ (old new : State) (id route : ℕ) (keep : Bool) (parts : HeadParts) (due : Due) (b : Begins old id route keep parts false false due new) (none : parts.length ≡ None) where
   pub begun_held : held_of id new.held ≡ Some (record { id = id; way = Waiting route b.text b.stage [] })
   begun_held = ap (λ (s : State). held_of id s.held) b.kept ∙ is_held id (Waiting route b.text b.stage []) old.held
 
@@ -33,6 +33,7 @@ module _ (old new : State) (id route : ℕ) (parts : HeadParts) (due : Due) (b :
   -- where it is held so, with a body so far
   may_take_with : (body octets : List ℕ) (ends : Bool) (hs : List Held) → held_of id hs ≡ Some (record { id = id; way = Waiting route b.text b.stage body }) → MayTakeOf octets ends (held_of id hs)
   may_take_with body octets ends hs found = subst (MayTakeOf octets ends) (sym found) (λ e. record {
+    keep = keep;
     parts = parts;
     sending = b.sending;
     goes_on = goes_on;

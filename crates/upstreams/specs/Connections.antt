@@ -1,16 +1,19 @@
 -- Open connections.
-use Rattle.std.specs.Prelude.{ℕ, ◌+◌, ◌<◌, ◌==◌, ◌^◌, Bool, true, false, if◌then◌else◌, List, [], ◌∷◌, map, reverse, Option, Some, None}
+use Rattle.std.specs.Prelude.{◌≡◌, ℕ, suc, ◌+◌, ◌<◌, ◌≤◌, ◌==◌, ◌^◌, Bool, false, if◌then◌else◌, List, [], ◌∷◌, map, length, reverse, Option, Some, None}
+use Rattle.model.specs.Idle.{most_idle}
 use Rattle.h1_reader.specs.declared.reader.Place.TheVariants as place
 use Rattle.answers.specs.Waiting.{Answer}
 use Rattle.answers.specs.declared.answer.Passing.{Passing}
 use Rattle.answers.specs.declared.answer.Passing.TheVariants.{Streaming}
-use Rattle.serving.specs.State.{Live, answered}
+use Rattle.serving.specs.Lines as serving
+use Rattle.serving.specs.Lines.{Line, Heard, with_answer, given_to, answer_by, is_idle, idle_ones, idle_beside}
+use Rattle.serving.specs.Lines.Answer.{Pending}
 use Rattle.upstreams.specs.Places.{IsAt, IsNowhere}
 
 -- An open connection: as the rule of requests has it, with the answer of its upstream so far, and how many octets were put out for it and
 -- how many of them its side took.
 pub record Connection : Type 0 where
-  pub live : Live
+  pub live : Line
   pub answer : Answer
   pub out : ℕ
   pub took : ℕ
@@ -21,24 +24,36 @@ number_of c = c.live.k
 abbrev pub stream_of : Connection → ℕ
 stream_of c = c.live.stream
 
+-- the stream that it works for, and one more, so that this is 0 where it is idle: then the exchange with its last one is over
+abbrev pub works_for : Connection → ℕ
+works_for c = if is_idle c.live.answer then 0 else suc c.live.stream
+
 -- they are those of the rule of requests
-abbrev pub lives : List Connection → List Live
+abbrev pub lives : List Connection → List Line
 lives cs = map (λ (c : Connection). c.live) cs
 
--- one that was just opened
-abbrev pub opened : ℕ → ℕ → Bool → Passing → Connection
-opened k stream to_head passing = record {
-  live = record { k = k; stream = stream; whole = false };
-  answer = record { reader = record { to_head = to_head; place = place.Head 0; held = record { octets = []; connections = [] } }; way = passing; head = None; body = []; trailers = None };
+-- an answer of which nothing has come
+abbrev pub fresh : Bool → Passing → Answer
+fresh to_head passing = record { reader = record { to_head = to_head; place = place.Head 0; held = record { octets = []; connections = []; keeps = false } }; way = passing; head = None; body = []; trailers = None }
+
+-- one that was just opened, by this route
+abbrev pub opened : ℕ → ℕ → ℕ → Bool → Passing → Connection
+opened k route stream to_head passing = record {
+  live = record { k = k; route = route; stream = stream; answer = Pending };
+  answer = fresh to_head passing;
   out = 0;
   took = 0;
 }
 
 -- ---- changes of the connection with a number
 
--- its response is whole
-abbrev pub whole_at : ℕ → Connection → Connection
-whole_at k c = record { live = answered true k c.live; answer = c.answer; out = c.out; took = c.took }
+-- its response is so far
+abbrev pub marked_at : ℕ → serving.Answer → Connection → Connection
+marked_at k progress c = record { live = with_answer k progress c.live; answer = c.answer; out = c.out; took = c.took }
+
+-- it is given to a stream, of whose response nothing has come; what was put out for it and what its side took stays counted
+abbrev pub given_at : ℕ → ℕ → Answer → Connection → Connection
+given_at k stream answer c = record { live = given_to k stream c.live; answer = if c.live.k == k then answer else c.answer; out = c.out; took = c.took }
 
 -- its answer is this now
 abbrev pub answer_at : ℕ → Answer → Connection → Connection
@@ -57,11 +72,31 @@ abbrev pub HasRoom : ℕ → Option Connection → Type 0
 HasRoom count None = Unit {0}
 HasRoom count (Some c) = c.out + count < 2 ^ 64
 
+-- this was heard of its exchange, by which it becomes idle or doesn't
+abbrev pub heard_at : ℕ → Heard → List Connection → List Connection
+heard_at k heard cs = map (marked_at k (answer_by (idle_beside k (lives cs)) heard)) cs
+
+-- ---- idle ones
+
+-- a connection that may be open is, and is idle
+abbrev pub is_idle_one : Option Connection → Bool
+is_idle_one None = false
+is_idle_one (Some c) = is_idle c.live.answer
+
+-- how many are idle
+abbrev pub idle_count : List Connection → ℕ
+idle_count cs = length (idle_ones (lives cs))
+
+-- So many are idle, and they aren't too many.
+pub record AreCounted (connections : List Connection) (idle : ℕ) : Type 0 where
+  pub counted : idle ≡ idle_count (reverse connections)
+  pub few : idle ≤ most_idle
+
 -- ---- where they lie
 
 -- what stands where none is
 abbrev pub no_connection : Connection
-no_connection = opened 0 0 false Streaming
+no_connection = opened 0 0 0 false Streaming
 
 -- The connection at this place has the number.
 abbrev pub IsOpenAt : List Connection → ℕ → ℕ → Type 0

@@ -19,7 +19,7 @@ answers_in (c ∷ cs) = octets_of c.answer + answers_in cs
 
 -- those that lie in a connection: its answer
 abbrev pub in_connection : ConnectionInside → ℕ
-in_connection = λ record { number = number; stream = stream; whole = whole; answer = answer; put_out = put_out; taken = taken }. octets_of answer
+in_connection = λ record { number = number; route = route; stream = stream; progress = progress; answer = answer; put_out = put_out; taken = taken }. octets_of answer
 
 -- in a request that isn't whole: one that waits, or the octet that is held back of one that goes out
 abbrev pub in_way : Way → ℕ
@@ -32,5 +32,5 @@ in_held = λ record { id = id; way = way }. in_way way
 
 -- in all of them: the requests and the connections, the newest first
 abbrev pub in_upstreams : UpstreamsInside → ℕ
-in_upstreams = λ record { alloc = alloc; held = held; connections = connections; count = count }.
+in_upstreams = λ record { alloc = alloc; held = held; connections = connections; idle = idle; count = count }.
     held_of_all (reverse held.items) + answers_in (reverse connections.items)

@@ -1,6 +1,8 @@
+pub use Rattle.serving.specs.Lines
 pub use Rattle.serving.specs.State
 pub use Rattle.serving.specs.Held
 pub mod Ways
+pub mod Progress
 pub mod Requests
 pub mod Connections
 pub mod Kept

@@ -1,21 +1,26 @@
 //! An open connection to an upstream.
 
-ghost use Rattle.std.specs.Prelude.{◌≡◌, ◌+◌, ◌<◌, ◌≤◌, ◌^◌, [], true, MatchBool};
-ghost use Rattle.upstreams.specs.Connections.{opened};
+ghost use Rattle.std.specs.Prelude.{◌≡◌, suc, ◌+◌, ◌<◌, ◌≤◌, ◌==◌, ◌^◌, ◌&&◌, [], MatchBool};
+ghost use Rattle.serving.specs.Lines.{is_idle};
+ghost use Rattle.serving.specs.Lines.Answer.{Pending};
+ghost use Rattle.upstreams.specs.Connections.{opened, works_for};
+ghost use Rattle.upstreams.specs.Progress.{answer_of};
 ghost use Rattle.h1_reader.specs.Standing.{Stands};
 
+use crate::progress::Progress;
 use answers::{Answer, Passing};
 use std::alloc::Global;
 use std::marker::Model;
 use std::mem;
 
-/// An open connection to an upstream: its number, from 1 in the order in which they are opened; the stream that it was opened for; whether
-/// the response is whole; the answer as far as it has come; and the octets that were put out for it and that its side took.
+/// An open connection to an upstream: its number, from 1 in the order in which they are opened; the place of its route; the stream that it was
+/// given to last; how far the response to that is; the answer as it has come; and the octets that were put out for it and that its side took.
 #[derive(Drop)]
 pub struct Connection {
     number: u32,
+    route: u32,
     stream: u32,
-    whole: bool,
+    progress: Progress,
     answer: Answer,
     put_out: u64,
     taken: u64,
@@ -24,30 +29,33 @@ pub struct Connection {
 impl Model for Connection {
     ghost use Rattle.std.specs.Prelude.{◌≤◌};
     ghost use Rattle.upstreams.specs.Connections.{Connection};
+    ghost use Rattle.upstreams.specs.Progress.{answer_of};
 
     ghost Value = { Connection };
 
-    ghost view = { λ c. record { live = record { k = c.number; stream = c.stream; whole = c.whole }; answer = c.answer; out = c.put_out; took = c.taken } };
+    ghost view = { λ c. record { live = record { k = c.number; route = c.route; stream = c.stream; answer = answer_of c.progress }; answer = c.answer; out = c.put_out; took = c.taken } };
 
     ghost invariant = { λ c. c.taken ≤ c.put_out };
 }
 
 impl Connection {
-    /// A connection that was just opened for a stream, whose request's method is HEAD or isn't.
+    /// A connection that was just opened for a stream, by the route at this place, whose request's method is HEAD or isn't.
     pub(crate) fn opened(
         alloc: Global,
         number: u32,
+        route: u32,
         stream: u32,
         to_head: bool,
         passing: Passing,
     ) -> Connection
-        ensures is { result ≡ opened number stream to_head passing }
+        ensures is { result ≡ opened number route stream to_head passing }
         ensures stands { Stands [] [] result.answer.reader }
     {
         Connection {
             number,
+            route,
             stream,
-            whole: false,
+            progress: Progress::Pending,
             answer: Answer::new(alloc, to_head, passing),
             put_out: 0,
             taken: 0,
@@ -61,19 +69,39 @@ impl Connection {
         self.number
     }
 
-    /// The id of its stream.
+    /// The id of the stream that it was given to last.
     pub fn stream(&self) -> u32
         ensures { result ≡ self.now.live.stream }
     {
         self.stream
     }
 
-    /// Whether the response is whole.
-    pub fn is_whole(&self) -> bool
-        ensures { result ≡ self.now.live.whole }
+    /// Whether it works for this stream: it was given to that last, and isn't idle.
+    pub(crate) fn works_for(&self, id: u32) -> bool
+        ensures { result ≡ (works_for self.now == suc id) }
     {
-        let Connection { whole, .. } = self;
-        *whole
+        !self.is_idle() && self.stream == id
+    }
+
+    /// How far the response is.
+    pub fn progress(&self) -> Progress
+        ensures { answer_of result ≡ self.now.live.answer }
+    {
+        self.progress
+    }
+
+    /// Whether it is idle: its response is whole, and it is kept for another request (RFC 9112, section 9.3).
+    pub fn is_idle(&self) -> bool
+        ensures { result ≡ is_idle self.now.live.answer }
+    {
+        self.progress.is_idle()
+    }
+
+    /// Whether it is idle and was opened by the route at this place.
+    pub(crate) fn is_idle_of(&self, route: u32) -> bool
+        ensures { result ≡ (is_idle self.now.live.answer && self.now.live.route == route) }
+    {
+        self.is_idle() && self.route == route
     }
 
     /// How its response is passed on.
@@ -81,6 +109,20 @@ impl Connection {
         ensures { result ≡ self.now.answer.way }
     {
         self.answer.passing()
+    }
+
+    /// How many octets were put out for it, to all streams that it was given to.
+    pub fn put_out(&self) -> u64
+        ensures { result ≡ self.now.out }
+    {
+        self.put_out
+    }
+
+    /// How many of them its side took.
+    pub fn taken(&self) -> u64
+        ensures { result ≡ self.now.took }
+    {
+        self.taken
     }
 
     /// How many octets that were put out for it its side hasn't taken yet.
@@ -97,11 +139,20 @@ impl Connection {
         self.put_out.checked_add(count).is_some()
     }
 
-    /// The response is whole.
-    pub(crate) fn mark_whole(&mut self)
-        ensures { self.new ≡ record self.old { live = record self.old.live { whole = true } } }
+    /// The response is so far.
+    pub(crate) fn mark(&mut self, progress: Progress)
+        ensures { self.new ≡ record self.old { live = record self.old.live { answer = answer_of progress } } }
     {
-        self.whole = true;
+        self.progress = progress;
+    }
+
+    /// It is given to a stream, with an answer of which nothing has come.
+    pub(crate) fn give(&mut self, stream: u32, answer: Answer)
+        ensures { self.new ≡ record self.old { live = record self.old.live { stream = stream; answer = Pending }; answer = answer } }
+    {
+        self.stream = stream;
+        self.progress = Progress::Pending;
+        self.answer = answer;
     }
 
     /// The answer, as far as it has come, for which this takes its place.

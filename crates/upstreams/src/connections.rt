@@ -1,10 +1,13 @@
 //! Open connections, the oldest first, found by their numbers.
 
-ghost use Rattle.std.specs.Prelude.{◌≡◌, ◌+◌, ◌<◌, ◌≤◌, ◌^◌, map, reverse, Some, None, MatchOption, IfSome, IfNone};
-ghost use Rattle.serving.specs.State.{find, without};
-ghost use Rattle.upstreams.specs.Connections.{number_of, stream_of, whole_at, answer_at, put_at, taken_at, AreRising, IsOpenAt, IsOpenNowhere};
+ghost use Rattle.std.specs.Prelude.{◌≡◌, suc, ◌+◌, ◌<◌, ◌≤◌, ◌^◌, map, reverse, Some, None, MatchOption, IfSome, IfNone};
+ghost use Rattle.model.specs.Idle.{most_idle};
+ghost use Rattle.serving.specs.Lines.{find, without, least_idle, idle_beside};
+ghost use Rattle.upstreams.specs.Connections.{number_of, works_for, lives, marked_at, given_at, answer_at, put_at, taken_at, is_idle_one, idle_count, AreCounted, AreRising, IsOpenAt, IsOpenNowhere};
+ghost use Rattle.upstreams.specs.Progress.{answer_of};
 
 use crate::connection::Connection;
+use crate::progress::Progress;
 use answers::Answer;
 
 /// The place of the connection with this number.
@@ -29,25 +32,86 @@ pub fn find(connections: &[Connection], k: u32) -> Option<&Connection>
     }
 }
 
-/// The newest connection of this stream.
+/// The newest connection that works for this stream.
 pub fn of_stream(connections: &[Connection], id: u32) -> Option<&Connection>
-    ensures { MatchOption result (find stream_of id (reverse connections.now) ≡ None) (λ connection. find stream_of id (reverse connections.now) ≡ Some connection.now) }
+    ensures { MatchOption result (find works_for (suc id) (reverse connections.now) ≡ None) (λ connection. find works_for (suc id) (reverse connections.now) ≡ Some connection.now) }
 {
     for connection in connections.iter().rev() {
-        if connection.stream() == id {
+        if connection.works_for(id) {
             return Some(connection);
         }
     }
     None
 }
 
-/// The response of the connection with this number is whole.
-pub fn mark_whole(connections: &mut Vec<Connection>, k: u32)
+/// The idle connection of the route at this place that was opened first, if there is one.
+pub fn least_idle(connections: &[Connection], route: u32) -> Option<u32>
+    requires { AreRising connections.now }
+    ensures { result ≡ least_idle route (lives (reverse connections.now)) }
+{
+    for connection in connections.iter() {
+        if connection.is_idle_of(route) {
+            return Some(connection.number());
+        }
+    }
+    None
+}
+
+/// Whether the connection with this number is open and idle.
+fn is_idle(connections: &[Connection], k: u32) -> bool
+    requires { AreRising connections.now }
+    ensures { result ≡ is_idle_one (find number_of k (reverse connections.now)) }
+{
+    match find(connections, k) {
+        Some(connection) => connection.is_idle(),
+        None => false,
+    }
+}
+
+/// How many connections are idle beside the one with this number, where so many are.
+pub fn idle_beside(connections: &[Connection], k: u32, idle: usize) -> usize
+    requires rising { AreRising connections.now }
+    requires few { AreCounted connections.now idle }
+    ensures { result ≡ idle_beside k (lives (reverse connections.now)) }
+{
+    if is_idle(connections, k) {
+        idle - 1
+    } else {
+        idle
+    }
+}
+
+/// How many connections are idle, where so many are beside the one with this number.
+pub fn idle_with(connections: &[Connection], k: u32, beside: usize) -> usize
+    requires rising { AreRising connections.now }
+    requires counted { beside ≡ idle_beside k (lives (reverse connections.now)) }
+    requires few { beside ≤ most_idle }
+    ensures { result ≡ idle_count (reverse connections.now) }
+{
+    if is_idle(connections, k) {
+        beside + 1
+    } else {
+        beside
+    }
+}
+
+/// The response of the connection with this number is so far.
+pub fn mark(connections: &mut Vec<Connection>, k: u32, progress: Progress)
     requires { AreRising connections.old.items }
-    ensures { reverse connections.new.items ≡ map (whole_at k) (reverse connections.old.items) }
+    ensures { reverse connections.new.items ≡ map (marked_at k (answer_of progress)) (reverse connections.old.items) }
 {
     if let Some(place) = place_of(connections, k) {
-        connections[place].mark_whole();
+        connections[place].mark(progress);
+    }
+}
+
+/// The connection with this number is given to a stream, with an answer of which nothing has come.
+pub fn give(connections: &mut Vec<Connection>, k: u32, stream: u32, answer: Answer)
+    requires { AreRising connections.old.items }
+    ensures { reverse connections.new.items ≡ map (given_at k stream answer) (reverse connections.old.items) }
+{
+    if let Some(place) = place_of(connections, k) {
+        connections[place].give(stream, answer);
     }
 }
 

@@ -1,8 +1,9 @@
 //! What is held of requests that aren't whole.
 
-ghost use Rattle.std.specs.Prelude.{◌≡◌, ◌==◌, true, false, map, reverse, Some, None, MatchBool, IfSome, IfNone, OnOk, OnErr, IfOk};
+ghost use Rattle.std.specs.Prelude.{◌≡◌, ◌==◌, true, false, [], map, reverse, Some, None, is_some, MatchBool, IfSome, IfNone, OnOk, OnErr, IfOk};
 ghost use Rattle.serving.specs.Held.{AreApart};
-ghost use Rattle.serving.specs.State.{id_of, held_of, held_with, without, to_send, dropped, drop_from, unless_whole};
+ghost use Rattle.serving.specs.Lines.{without};
+ghost use Rattle.serving.specs.State.{id_of, held_of, held_with, to_send, dropped, drop_from, unless_whole};
 ghost use Rattle.serving.specs.State.Way.{Going as GoingOn, Dropped};
 ghost use Rattle.upstreams.specs.Ways.{way_of};
 ghost use Rattle.upstreams.specs.Requests.{stage_of, due_by, MayTake, MayTakeOf, GoesBy, Takes, IsHeldAt, IsHeldNowhere};
@@ -13,7 +14,7 @@ use requests::{Going, Waiting};
 use std::alloc::{AllocError, Global};
 use std::marker::Model;
 
-/// A request that goes out: a connection is to be opened for its stream, by the route at this place, and its text goes out there.
+/// A request that goes out, by the route at this place: its text goes out on a connection that is to be opened for its stream, or given to it.
 #[derive(Drop)]
 pub struct Outgoing {
     /// The stream's id.
@@ -31,8 +32,15 @@ pub struct Outgoing {
 pub enum Due {
     /// Nothing.
     Nothing,
-    /// The request goes out.
+    /// The request goes out on a connection that is to be opened.
     ToOpen(Outgoing),
+    /// The request goes out on an idle connection (RFC 9112, section 9.3).
+    ToUse {
+        /// The number of the connection.
+        number: u32,
+        /// The request.
+        request: Outgoing,
+    },
     /// More of it goes out where it goes.
     ToSend {
         /// The number of its connection.
@@ -99,7 +107,7 @@ impl Held {
     /// More octets of its body come, which goes on behind them, so that trailers don't count yet. An `Err` says that memory was refused.
     fn go_on(&mut self, alloc: Global, octets: &[u8], trailers: &[Field]) -> Result<Due, AllocError>
         requires { MayTake octets.now false self.old.way }
-        ensures goes { IfOk result (λ due. GoesBy self.old.id octets.now trailers.now false self.old.way (due_by due) (Some self.new.way)) }
+        ensures goes { IfOk result (λ due. GoesBy [] self.old.id octets.now trailers.now false self.old.way (due_by due) (Some self.new.way)) }
         ensures same { self.new.id ≡ self.old.id }
     {
         match &mut self.way {
@@ -119,7 +127,7 @@ impl Held {
     fn finish(self, alloc: Global, octets: &[u8], trailers: &[Field]) -> Result<Due, AllocError>
         requires may { MayTake octets.now true self.way }
         requires on { self.way ≡ Dropped → ⊥ }
-        ensures { IfOk result (λ due. GoesBy self.id octets.now trailers.now true self.way (due_by due) None) }
+        ensures { IfOk result (λ due. GoesBy [] self.id octets.now trailers.now true self.way (due_by due) None) }
     {
         let Held { id, way } = self;
         match way {
@@ -171,6 +179,14 @@ fn place_of(held: &[Held], id: u32) -> Option<usize>
     held.iter().position(|h| h.id() == id)
 }
 
+/// Whether something is held of a stream.
+pub(crate) fn holds(held: &[Held], id: u32) -> bool
+    requires { AreApart (reverse held.now) }
+    ensures { result ≡ is_some (held_of id (reverse held.now)) }
+{
+    place_of(held, id).is_some()
+}
+
 /// Holds a request on this way, in the place of what was held of its stream, or behind all. An `Err` says that memory was refused; it changes
 /// nothing.
 pub(crate) fn hold(held: &mut Vec<Held>, id: u32, way: Way) -> Result<(), AllocError>
@@ -208,8 +224,8 @@ pub fn hold_rest(
     hold(held, id, Way::Going(k, going))
 }
 
-/// Octets of the body of a stream's request come, and end it, with these trailers, or don't: what is due behind them. An `Err` says that
-/// memory was refused.
+/// Octets of the body of a stream's request come, and end it, with these trailers, or don't: what is due behind them, where no connection is
+/// idle. An `Err` says that memory was refused.
 pub fn take_body(
     alloc: Global,
     held: &mut Vec<Held>,
@@ -220,7 +236,7 @@ pub fn take_body(
 ) -> Result<Due, AllocError>
     requires apart { AreApart (reverse held.old.items) }
     requires may { MayTakeOf octets.now ends (held_of id (reverse held.old.items)) }
-    ensures takes { IfOk result (λ due. Takes id octets.now trailers.now ends (reverse held.old.items) (held_of id (reverse held.old.items)) (due_by due) (reverse held.new.items)) }
+    ensures takes { IfOk result (λ due. Takes [] id octets.now trailers.now ends (reverse held.old.items) (held_of id (reverse held.old.items)) (due_by due) (reverse held.new.items)) }
     ensures apart { AreApart (reverse held.new.items) }
 {
     let Some(place) = place_of(held, id) else {

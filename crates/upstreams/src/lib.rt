@@ -8,8 +8,10 @@ mod connection;
 mod connections;
 mod held;
 pub mod laws;
+mod progress;
 mod upstreams;
 
 pub use crate::connection::Connection;
 pub use crate::held::{Due, Outgoing};
+pub use crate::progress::{Progress, Verdict};
 pub use crate::upstreams::Upstreams;

@@ -1,18 +1,21 @@
 //! Requests that aren't whole, and open connections.
 
-ghost use Rattle.std.specs.Prelude.{◌≡◌, ◌+◌, ◌<◌, ◌≤◌, [], suc, map, reverse, true, Some, None, MatchBool, MatchOption, IfSome, OnOk, OnErr, IfOk};
+ghost use Rattle.std.specs.Prelude.{◌≡◌, ◌+◌, ◌<◌, ◌≤◌, [], suc, map, reverse, true, Some, None, is_some, MatchBool, MatchOption, IfSome, OnOk, OnErr, IfOk};
 ghost use Rattle.model.specs.Http2.{HasLength};
 ghost use Rattle.model.specs.StreamStates.{most_streams};
 ghost use Rattle.h1_reader.specs.Standing.{Stands};
-ghost use Rattle.serving.specs.State.{id_of, held_of, find, without, drop_from};
+ghost use Rattle.serving.specs.Lines.{find, without, least_idle};
+ghost use Rattle.serving.specs.State.{id_of, held_of, drop_from};
 ghost use Rattle.serving.specs.State.Due.{ToOpen};
-ghost use Rattle.upstreams.specs.Requests.{stage_of, due_for, due_by, MayTakeOf, Takes};
-ghost use Rattle.upstreams.specs.Connections.{number_of, stream_of, opened, whole_at, answer_at, put_at, taken_at, AreRising, HasRoom};
-ghost use Rattle.upstreams.specs.Kept.{nothing, opened_for, Begins};
+ghost use Rattle.upstreams.specs.Requests.{stage_of, due_for, due_by, on_idle, MayTakeOf, Takes};
+ghost use Rattle.upstreams.specs.Connections.{number_of, works_for, lives, fresh, heard_at, answer_at, put_at, taken_at, AreRising, HasRoom};
+ghost use Rattle.upstreams.specs.Kept.{nothing, opened_for, given_for, Begins};
+ghost use Rattle.upstreams.specs.Progress.{heard_of};
 
 use crate::connection::Connection;
 use crate::connections;
 use crate::held::{self, Due, Held, Outgoing, Way};
+use crate::progress::Verdict;
 use answers::{Answer, Passing};
 use h1_writer::Text;
 use hpack_table::Field;
@@ -28,6 +31,8 @@ pub struct Upstreams {
     alloc: Global,
     held: Vec<Held>,
     connections: Vec<Connection>,
+    /// How many of them are idle.
+    idle: usize,
     count: u32,
 }
 
@@ -39,7 +44,7 @@ impl Model for Upstreams {
 
     ghost view = { λ u. record { held = reverse u.held.items; live = reverse u.connections.items; count = u.count } };
 
-    ghost invariant = { λ u. AreKept u.held.items u.connections.items u.count };
+    ghost invariant = { λ u. AreKept u.held.items u.connections.items u.idle u.count };
 }
 
 impl Upstreams {
@@ -51,42 +56,59 @@ impl Upstreams {
             alloc,
             held: Vec::new(alloc),
             connections: Vec::new(alloc),
+            idle: 0,
             count: 0,
         }
     }
 
     /// The head of a stream's request came (RFC 9112, sections 2 to 3 and 6), whose route is at this place, and which ends the stream or
-    /// doesn't. Where it does, or where bodies go out as they come, it is due at once; else it is held until its end. An `Err` says that
-    /// memory was refused; it changes nothing.
+    /// doesn't; connections are kept for further requests, or each is closed behind its request (RFC 9112, section 9.6). Where it ends the
+    /// stream, or where bodies go out as they come, it is due at once; else it is held until its end. An `Err` says that memory was refused;
+    /// it changes nothing.
     pub fn begin(
         &mut self,
         id: u32,
         route: u32,
         head: &RequestHead,
         ended: bool,
+        keep: bool,
         at_once: bool,
     ) -> Result<Due, AllocError>
         requires { ended ≡ true → HasLength head.now.length [] }
-        ensures begun { IfOk result (λ due. Begins self.old id route head.now ended at_once (due_by due) self.new) }
+        ensures begun { IfOk result (λ due. Begins self.old id route keep head.now ended at_once (due_by due) self.new) }
         ensures unchanged { OnErr result (self.new ≡ self.old) }
     {
-        match requests::begin(self.alloc, head, ended, route)? {
+        match requests::begin(self.alloc, head, ended, keep, route)? {
             Begun::Whole(text) => {
                 self.forget(id);
-                Ok(Due::ToOpen(Outgoing {
+                Ok(self.on_idle(Due::ToOpen(Outgoing {
                     stream: id,
                     route,
                     text: Text::from_octets(text),
                     rest: None,
-                }))
+                })))
             }
             Begun::Waits(request) => {
                 if at_once {
-                    return Ok(Due::ToOpen(self.go(id, route, request)));
+                    let request = self.go(id, route, request);
+                    return Ok(self.on_idle(Due::ToOpen(request)));
                 }
                 held::hold(&mut self.held, id, Way::Waiting(request))?;
                 Ok(Due::Nothing)
             }
+        }
+    }
+
+    /// A request that goes out does so on the idle connection of its route that was opened first, if there is one.
+    fn on_idle(&self, due: Due) -> Due
+        ensures { due_by result ≡ on_idle (lives self.now.live) (due_by due) }
+    {
+        let Due::ToOpen(request) = due else {
+            return due;
+        };
+        match self.least_idle(request.route) {
+            Some(number) => Due::ToUse { number, request },
+            None => Due::ToOpen(request),
         }
     }
 
@@ -117,10 +139,18 @@ impl Upstreams {
         trailers: &[Field],
     ) -> Result<Due, AllocError>
         requires { MayTakeOf octets.now ends (held_of id self.old.held) }
-        ensures takes { IfOk result (λ due. Takes id octets.now trailers.now ends self.old.held (held_of id self.old.held) (due_by due) self.new.held) }
+        ensures takes { IfOk result (λ due. Takes (lives self.old.live) id octets.now trailers.now ends self.old.held (held_of id self.old.held) (due_by due) self.new.held) }
         ensures rest { self.new ≡ record self.old { held = self.new.held } }
     {
-        held::take_body(self.alloc, &mut self.held, id, octets, ends, trailers)
+        let due = held::take_body(self.alloc, &mut self.held, id, octets, ends, trailers)?;
+        Ok(self.on_idle(due))
+    }
+
+    /// Whether something is held of a stream's request: it isn't whole yet.
+    pub fn holds(&self, id: u32) -> bool
+        ensures { result ≡ is_some (held_of id self.now.held) }
+    {
+        held::holds(&self.held, id)
     }
 
     /// Nothing is held of a stream any more.
@@ -130,24 +160,25 @@ impl Upstreams {
         let _request = held::take(&mut self.held, id);
     }
 
-    /// A connection is opened for a stream, whose request's method is HEAD or isn't: it has the next number, which is the answer. Where there
-    /// is a rest of the request it goes out there as it comes; else nothing of it is held any more. At most 10,000 are ever opened, one for a
-    /// stream. An `Err` says that memory was refused; it changes nothing.
+    /// A connection is opened for a stream, by the route at this place; its request's method is HEAD or isn't. It has the next number, which is
+    /// the answer. Where there is a rest of the request it goes out there as it comes; else nothing of it is held any more. At most 10,000
+    /// are ever opened, one for a stream at most. An `Err` says that memory was refused; it changes nothing.
     pub fn open(
         &mut self,
         stream: u32,
+        route: u32,
         to_head: bool,
         passing: Passing,
         rest: Option<Going>,
     ) -> Result<u32, AllocError>
         requires { self.old.count < most_streams }
         ensures number { IfOk result (λ k. k ≡ suc self.old.count) }
-        ensures stands { Stands [] [] (opened (suc self.old.count) stream to_head passing).answer.reader }
-        ensures opened { OnOk result (self.new ≡ opened_for stream to_head passing (stage_of rest) self.old) }
+        ensures stands { Stands [] [] (fresh to_head passing).reader }
+        ensures opened { OnOk result (self.new ≡ opened_for stream route to_head passing (stage_of rest) self.old) }
         ensures unchanged { OnErr result (self.new ≡ self.old) }
     {
         let k = self.count + 1;
-        let connection = Connection::opened(self.alloc, k, stream, to_head, passing);
+        let connection = Connection::opened(self.alloc, k, route, stream, to_head, passing);
         self.connections.push(connection)?;
         if let Err(refused) = held::hold_rest(&mut self.held, stream, k, rest) {
             let _connection = self.connections.pop();
@@ -155,6 +186,38 @@ impl Upstreams {
         }
         self.count = k;
         Ok(k)
+    }
+
+    /// The idle connection of the route at this place that was opened first, if there is one. Where none is idle no connection is looked at.
+    pub fn least_idle(&self, route: u32) -> Option<u32>
+        ensures { result ≡ least_idle route (lives self.now.live) }
+    {
+        if self.idle == 0 {
+            return None;
+        }
+        connections::least_idle(&self.connections, route)
+    }
+
+    /// An open connection, which is idle, is given to a stream, whose request's method is HEAD or isn't (RFC 9112, section 9.3): of the response
+    /// nothing has come. What was put out for it and what its side took stays counted. Where there is a rest of the request it goes out there
+    /// as it comes; else nothing of it is held any more. An `Err` says that memory was refused; it changes nothing.
+    pub fn give(
+        &mut self,
+        k: u32,
+        stream: u32,
+        to_head: bool,
+        passing: Passing,
+        rest: Option<Going>,
+    ) -> Result<(), AllocError>
+        ensures stands { Stands [] [] (fresh to_head passing).reader }
+        ensures given { OnOk result (self.new ≡ given_for k stream to_head passing (stage_of rest) self.old) }
+        ensures unchanged { OnErr result (self.new ≡ self.old) }
+    {
+        let answer = Answer::new(self.alloc, to_head, passing);
+        held::hold_rest(&mut self.held, stream, k, rest)?;
+        self.idle = connections::idle_beside(&self.connections, k, self.idle);
+        connections::give(&mut self.connections, k, stream, answer);
+        Ok(())
     }
 
     /// The open connections, by rising number.
@@ -172,18 +235,22 @@ impl Upstreams {
         connections::find(&self.connections, k)
     }
 
-    /// The newest open connection of a stream, if there is one.
+    /// The newest open connection that works for a stream, if there is one: one that is idle works for none, since the exchange with its last stream
+    /// is over.
     pub fn of_stream(&self, id: u32) -> Option<&Connection>
-        ensures { MatchOption result (find stream_of id self.now.live ≡ None) (λ connection. find stream_of id self.now.live ≡ Some connection.now) }
+        ensures { MatchOption result (find works_for (suc id) self.now.live ≡ None) (λ connection. find works_for (suc id) self.now.live ≡ Some connection.now) }
     {
         connections::of_stream(&self.connections, id)
     }
 
-    /// The response of a connection is whole.
-    pub fn mark_whole(&mut self, k: u32)
-        ensures { self.new ≡ record self.old { live = map (whole_at k) self.old.live } }
+    /// This was heard of the response on a connection. Where it is whole, and the connection may be kept behind it, that is idle from now on, unless
+    /// eight others are.
+    pub fn mark_heard(&mut self, k: u32, verdict: Verdict)
+        ensures { self.new ≡ record self.old { live = heard_at k (heard_of verdict) self.old.live } }
     {
-        connections::mark_whole(&mut self.connections, k);
+        let beside = connections::idle_beside(&self.connections, k, self.idle);
+        connections::mark(&mut self.connections, k, verdict.progress(beside));
+        self.idle = connections::idle_with(&self.connections, k, beside);
     }
 
     /// Lends out the answer of a connection, as far as it has come, for which this one takes its place until it is put back by the same
@@ -199,6 +266,7 @@ impl Upstreams {
     pub fn close(&mut self, k: u32)
         ensures { self.new ≡ record self.old { held = map (drop_from k) self.old.held; live = without number_of k self.old.live } }
     {
+        self.idle = connections::idle_beside(&self.connections, k, self.idle);
         held::drop_from(&mut self.held, k);
         connections::remove(&mut self.connections, k);
     }

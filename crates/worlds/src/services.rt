@@ -185,7 +185,8 @@ fn closes_client(outputs: &[Output]) -> bool
 /// closed, `Turns` only after all turns, and `Over` only where the world said so; `World` only where a call of the world failed, and then
 /// what was added is a front of such a log, without the output that failed; `NotAdmitted` only where an event came that may not, with whose it is, and of a
 /// world that keeps to rooms never with an upstream, whether it tells its log or not; `Memory` puts out nothing for the event that came last, and all that was
-/// added before it is such a log. The maxima are at most 1,073,741,824, there are at most 4,294,967,295 routes, and upstream connections aren't kept.
+/// added before it is such a log. The maxima are at most 1,073,741,824, and there are at most 4,294,967,295 routes. Upstream connections are kept or not, as the
+/// configuration says.
 pub fn serve<W: World>(
     alloc: Global,
     config: &Config,

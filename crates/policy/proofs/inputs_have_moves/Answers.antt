@@ -1,4 +1,4 @@
-use Rattle.policy.specs.Moves.Deed.{Breaks, Notes, Hears, Fails}
+use Rattle.policy.specs.Moves.Deed.{Breaks, Notes, Hears, Fails, Idles}
 use Rattle.policy.specs.Steps.{told_behind}
 use Rattle.policy.proofs.Coming as coming
 use Rattle.policy.proofs.inputs_have_moves.Goals as goal
@@ -13,7 +13,10 @@ pub returns-clause-frame : goal.returns-clause-frame
 returns-clause-frame c setup s noted next gain ready may = coming.may_take_by_book setup s ready noted next gain may
 
 pub returns-clause-hears : goal.returns-clause-hears
-returns-clause-hears c setup s event stream news whole ready may = coming.may_hear setup (told_behind setup s (Hears event stream news whole)) s ready event stream news whole may
+returns-clause-hears c setup s event stream news heard ready may = coming.may_hear setup (told_behind setup s (Hears event stream news heard)) s ready event stream news heard may
 
 pub returns-clause-fails : goal.returns-clause-fails
-returns-clause-fails c setup s event stream whole ready may = coming.may_fail setup (told_behind setup s (Fails event stream whole)) s ready event stream whole may
+returns-clause-fails c setup s event stream heard ready may = coming.may_fail setup (told_behind setup s (Fails event stream heard)) s ready event stream heard may
+
+pub returns-clause-idles : goal.returns-clause-idles
+returns-clause-idles c setup s event ready may = coming.may_idle setup (told_behind setup s (Idles event)) s ready event may

@@ -6,3 +6,6 @@ returns-clause-boxes c = laws.boxes
 
 pub returns-clause-opens : goal.returns-clause-opens
 returns-clause-opens c = laws.opens_next
+
+pub returns-clause-uses : goal.returns-clause-uses
+returns-clause-uses c = laws.uses_next

@@ -36,3 +36,9 @@ returns-clause-together c = holding.all_by_body
 
 pub returns-clause-connections : goal.returns-clause-connections
 returns-clause-connections c = connections.live_few
+
+pub returns-clause-idle : goal.returns-clause-idle
+returns-clause-idle c = connections.idle_few
+
+pub returns-clause-none_idle : goal.returns-clause-none_idle
+returns-clause-none_idle c = connections.idle_none

@@ -40,6 +40,7 @@ use Rattle.steps.specs.Inputs.Input.{OfFrame}
 use Rattle.steps.specs.block_frames.Following.{farewell_behind, IsCalmedBehind}
 use Rattle.steps.specs.block_frames.Acting.{IsActed}
 use Rattle.steps.specs.block_frames.Taken.{IsBlockTaken}
+use Rattle.steps.specs.declared.block_frames.outlet.Outlet.{Outlet}
 use Rattle.steps.specs.declared.block_frames.taking.BlockTaken.{BlockTaken}
 use Rattle.steps.specs.declared.block_frames.taking.BlockTaken.TheVariants as taken
 use Rattle.steps.proofs.block_frames.Before.{left_is}
@@ -66,7 +67,7 @@ reset_is setup untaken old mid noted next code kept left stays table =
     reset : book_after setup false then_book (sending (rst_stream noted.frame.id code)) ≡ behind_reset then_book (rst_stream noted.frame.id code)
     reset = (reset_leads setup then_book (noted_of (rst_stream noted.frame.id code)) (kept_behind_entry setup false (book_of (outside_of untaken) old) (Came noted) kept) refl refl).book
 
-module _ (setup : Setup) (old : View) (rest : IsAtRest old) (frame : Frame) (mid : Inbound) (of : IsOfBlock frame) (kept : AreKept old.inbound.rows) (few_rows : length (ids_of old.inbound.rows) ≤ most_streams) (outputs : List Output) (small : frame.id < 2147483648) (at_once : Bool) where
+module _ (setup : Setup) (old : View) (rest : IsAtRest old) (frame : Frame) (mid : Inbound) (of : IsOfBlock frame) (kept : AreKept old.inbound.rows) (few_rows : length (ids_of old.inbound.rows) ≤ most_streams) (outputs : List Output) (small : frame.id < 2147483648) (outlet : Outlet) where
   abbrev told : Summary
   told = told_of (outside_of old.untaken) old.inbound
 
@@ -77,13 +78,13 @@ module _ (setup : Setup) (old : View) (rest : IsAtRest old) (frame : Frame) (mid
   last = farewell_behind (length old.inbound.rows) mid.rows
 
   -- an error of the connection
-  pub fatal_taken : (code : ℕ) (is : IsFragmentJudged setup (outside_of old.untaken) old.inbound frame mid (judged.Failed (fault.Connection code))) (result : BlockTaken) (new : View) (put_out : List Output) → IsActed frame.id at_once (judged.Failed (fault.Connection code)) last (record old { inbound = mid }) outputs result new put_out → IsBlockTaken setup old outputs frame result new put_out
+  pub fatal_taken : (code : ℕ) (is : IsFragmentJudged setup (outside_of old.untaken) old.inbound frame mid (judged.Failed (fault.Connection code))) (result : BlockTaken) (new : View) (put_out : List Output) → IsActed frame.id outlet (judged.Failed (fault.Connection code)) last (record old { inbound = mid }) outputs result new put_out → IsBlockTaken setup old outputs frame result new put_out
   fatal_taken code is (taken.Goes due farewell_left dropped) new put_out acted = absurd acted.0
   fatal_taken code is (taken.Fatal found) new put_out acted =
       fatal_so setup old rest frame mid of kept few_rows outputs small (judged.Failed (fault.Connection code)) is found (is.judged.is ∙ ap (λ c. Some (errors.Fault.Connection c)) (sym acted.0)) is.judged.left new put_out acted.1 acted.2
 
   -- an error of its stream
-  pub stream_taken : (code : ℕ) (is : IsFragmentJudged setup (outside_of old.untaken) old.inbound frame mid (judged.Failed (fault.Stream code))) (result : BlockTaken) (new : View) (put_out : List Output) → IsActed frame.id at_once (judged.Failed (fault.Stream code)) last (record old { inbound = mid }) outputs result new put_out → IsBlockTaken setup old outputs frame result new put_out
+  pub stream_taken : (code : ℕ) (is : IsFragmentJudged setup (outside_of old.untaken) old.inbound frame mid (judged.Failed (fault.Stream code))) (result : BlockTaken) (new : View) (put_out : List Output) → IsActed frame.id outlet (judged.Failed (fault.Stream code)) last (record old { inbound = mid }) outputs result new put_out → IsBlockTaken setup old outputs frame result new put_out
   stream_taken code is result new put_out acted =
       passed_reset setup old rest frame mid of kept few_rows outputs small (judged.Failed (fault.Stream code)) is (ap is_fatal is.judged.is) code
       (reset_is setup old.untaken old.inbound mid (record { frame = frame; note = is.note }) is.next code kept is.judged.left is.stays is.table) is.judged.is result new put_out acted
@@ -95,7 +96,7 @@ module _ (setup : Setup) (old : View) (rest : IsAtRest old) (frame : Frame) (mid
       (reset_is setup old.untaken old.inbound mid (record { frame = frame; note = is.note }) is.next code kept is.judged.left is.stays is.table) is.judged.is p stopped
 
   -- one that is passed over
-  pub discarded_taken : (is : IsFragmentJudged setup (outside_of old.untaken) old.inbound frame mid (judged.Failed fault.Discarded)) (result : BlockTaken) (new : View) (put_out : List Output) → IsActed frame.id at_once (judged.Failed fault.Discarded) last (record old { inbound = mid }) outputs result new put_out → IsBlockTaken setup old outputs frame result new put_out
+  pub discarded_taken : (is : IsFragmentJudged setup (outside_of old.untaken) old.inbound frame mid (judged.Failed fault.Discarded)) (result : BlockTaken) (new : View) (put_out : List Output) → IsActed frame.id outlet (judged.Failed fault.Discarded) last (record old { inbound = mid }) outputs result new put_out → IsBlockTaken setup old outputs frame result new put_out
   discarded_taken is result new put_out acted =
       let noted : Noted = record { frame = frame; note = is.note } in
       let same : mid ≡ inbound_behind setup old.untaken old.inbound noted is.next = left_is setup old.untaken old.inbound mid noted is.next is.judged.left is.stays is.table in
@@ -106,7 +107,7 @@ module _ (setup : Setup) (old : View) (rest : IsAtRest old) (frame : Frame) (mid
       result new put_out acted
 
   -- one with which a block goes on
-  pub part_taken : (is : IsFragmentJudged setup (outside_of old.untaken) old.inbound frame mid judged.GoesOn) (result : BlockTaken) (new : View) (put_out : List Output) → IsActed frame.id at_once judged.GoesOn last (record old { inbound = mid }) outputs result new put_out → IsBlockTaken setup old outputs frame result new put_out
+  pub part_taken : (is : IsFragmentJudged setup (outside_of old.untaken) old.inbound frame mid judged.GoesOn) (result : BlockTaken) (new : View) (put_out : List Output) → IsActed frame.id outlet judged.GoesOn last (record old { inbound = mid }) outputs result new put_out → IsBlockTaken setup old outputs frame result new put_out
   part_taken is result new put_out acted =
       let noted : Noted = record { frame = frame; note = is.note } in
       let same : mid ≡ inbound_behind setup old.untaken old.inbound noted is.next = left_is setup old.untaken old.inbound mid noted is.next is.judged.left is.stays is.table in
@@ -117,7 +118,7 @@ module _ (setup : Setup) (old : View) (rest : IsAtRest old) (frame : Frame) (mid
       result new put_out acted
 
   -- one whose block isn't looked at any more
-  pub ignored_taken : (is : IsFragmentJudged setup (outside_of old.untaken) old.inbound frame mid judged.Ignored) (result : BlockTaken) (new : View) (put_out : List Output) → IsActed frame.id at_once judged.Ignored last (record old { inbound = mid }) outputs result new put_out → IsBlockTaken setup old outputs frame result new put_out
+  pub ignored_taken : (is : IsFragmentJudged setup (outside_of old.untaken) old.inbound frame mid judged.Ignored) (result : BlockTaken) (new : View) (put_out : List Output) → IsActed frame.id outlet judged.Ignored last (record old { inbound = mid }) outputs result new put_out → IsBlockTaken setup old outputs frame result new put_out
   ignored_taken is result new put_out acted =
       let noted : Noted = record { frame = frame; note = is.note } in
       let says = is.judged.says in

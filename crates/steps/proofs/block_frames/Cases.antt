@@ -26,7 +26,7 @@ use Rattle.conduct.proofs.Calm.{fatal_before_block, idle_frame_is}
 use Rattle.conduct.proofs.Rows.{ids_changed}
 use Rattle.offering.specs.State as offering
 use Rattle.offering.specs.Rule.{found_by}
-use Rattle.serving.specs.State as serving
+use Rattle.serving.specs.Lines as lines
 use Rattle.serving.specs.State.{Held, id_of}
 use Rattle.serving.specs.State.Due.{Nothing}
 use Rattle.tables.specs.Rule.{IsNoted}
@@ -185,7 +185,7 @@ module _ (setup : Setup) (old : View) (rest : IsAtRest old) (noted : Noted) (nex
         same : reset_view paid id code ≡ target
         same =
             ap (λ n. record (reset_view paid id code) { untaken = n + length (spell (rst_stream id code)) }) (untaken_same last)
-            ∙ ap (λ (ks : List offering.Kept). record target { offers = record old.offers { kept = ks }; upstreams = record old.upstreams { held = serving.without id_of id (held_if served id old.upstreams.held) }; marks = without_side id first.marks }) (offers_gone id (change_between old.inbound.rows behind.rows id) old.offers)
+            ∙ ap (λ (ks : List offering.Kept). record target { offers = record old.offers { kept = ks }; upstreams = record old.upstreams { held = lines.without id_of id (held_if served id old.upstreams.held) }; marks = without_side id first.marks }) (offers_gone id (change_between old.inbound.rows behind.rows id) old.offers)
             ∙ ap (λ (hs : List Held). record target { upstreams = record old.upstreams { held = hs }; marks = without_side id first.marks }) (held_gone served id old.upstreams.held)
             ∙ ap (λ (ms : List Side). record target { marks = ms }) (marks_gone (is_active behind.rows id))
 

@@ -31,9 +31,10 @@ use Rattle.conduct.specs.Rows.{find}
 use Rattle.conduct.specs.Book.{Book, summary_in, book_after}
 use Rattle.offering.specs.State as offering
 use Rattle.offering.specs.Rule.{found_by}
+use Rattle.serving.specs.Lines.{least_idle}
 use Rattle.serving.specs.State as serving
-use Rattle.serving.specs.State.{Held, Way, Due, held_of, held_with, goes_now, waits_from, is_whole, is_streaming}
-use Rattle.serving.specs.State.Due.{Nothing, ToOpen}
+use Rattle.serving.specs.State.{Held, Way, Due, held_of, held_with, goes_now, waits_from, is_whole}
+use Rattle.serving.specs.State.Due.{Nothing}
 use Rattle.serving.specs.State.Way.{Waiting, Going, Dropped}
 use Rattle.serving.specs.Rule.{IsServing}
 use Rattle.tables.specs.Rule.{IsNoted}
@@ -45,6 +46,7 @@ use Rattle.judgement.specs.Fragments.{IsOfBlock}
 use Rattle.upstreams.specs.Kept as upstreams
 use Rattle.upstreams.specs.Kept.{with_due, Begins}
 use Rattle.upstreams.specs.Requests.{Gathers, IsPassed, TakesBy}
+use Rattle.upstreams.specs.Connections.{lives}
 use Rattle.upstreams.specs.Requests.{Takes as TakesOf}
 use Rattle.policy.specs.Moves.{Gain, Move, gained, told_in}
 use Rattle.policy.specs.Moves.Deed.{Takes}
@@ -57,6 +59,8 @@ use Rattle.relay.specs.Rest.{IsAtRest}
 use Rattle.relay.specs.Bringing.{Course, Brings}
 use Rattle.relay.specs.Ways.{IsHeldFor}
 use Rattle.relay.proofs.Coming.{outside_of, inbound_behind, change_between, offers_with, told_of_rows}
+use Rattle.steps.specs.block_frames.Taken.{IsOutlet}
+use Rattle.steps.specs.declared.block_frames.outlet.Outlet.{Outlet}
 use Rattle.steps.specs.block_frames.Following.{offers_if, held_if, marks_if, dropped_if, dropped_by, followed}
 use Rattle.steps.proofs.block_frames.Lists.{offers_followed}
 use Rattle.steps.proofs.block_frames.Streams.{goes_on_with}
@@ -97,10 +101,10 @@ module _ (setup : Setup) (old : View) (rest : IsAtRest old) (noted : Noted) (nex
   -- ---- a request begins
 
   module _ (fields : List Field) (ends : Bool) (route : ℕ) (adds : AddsHead setup (told_of (outside_of old.untaken) old.inbound) noted (Block fields ends)) where
-    pub brings_begun : (at_once : Bool) → at_once ≡ is_streaming setup.passing → (owed : List Frame) → owes_in setup false (told_of (outside_of old.untaken) old.inbound) (Came noted) ≡ owed → (parts : Rattle.request_rules.specs.Heads.HeadParts) → GoesOn setup fields ends parts route
-        → (due : Due) (new : upstreams.State) → Begins (followed id behind_view).upstreams id route parts ends at_once due new
+    pub brings_begun : (outlet : Outlet) → IsOutlet setup outlet → (owed : List Frame) → owes_in setup false (told_of (outside_of old.untaken) old.inbound) (Came noted) ≡ owed → (parts : Rattle.request_rules.specs.Heads.HeadParts) → GoesOn setup fields ends parts route
+        → (due : Due) (new : upstreams.State) → Begins (followed id behind_view).upstreams id route outlet.keep parts ends outlet.at_once due new
         → (outputs : List Output) → Brings setup old square outputs (Came noted) (record (followed id behind_view) { upstreams = new }) (record square { owed = owed; due = due; shared = dropped_by id behind_view }) outputs
-    brings_begun at_once as_set owed owes parts goes due new begun outputs run s leads =
+    brings_begun outlet as_set owed owes parts goes due new begun outputs run s leads =
         leads_there setup old rest run s leads noted next of mild is_noted read gained_by is_so owed due (offers_if (is_active behind.rows id) id old.offers) new
         (ap (λ (u : upstreams.State). u.live) begun.kept) owes (followed_there run s leads) requests outputs
       where
@@ -113,19 +117,21 @@ module _ (setup : Setup) (old : View) (rest : IsAtRest old) (noted : Noted) (nex
           record {
             serving = serving_now gained_by run s leads;
             by_route = goes.by_route;
-            sending = subst (λ (p : Rattle.request_rules.specs.Heads.HeadParts). Rattle.h1_writer.specs.Sending.Sending false p ends begun.text [] [] begun.stage) goes.parts begun.sending;
+            sending =
+                subst (λ (p : Rattle.request_rules.specs.Heads.HeadParts). Rattle.h1_writer.specs.Sending.Sending setup.keep p ends begun.text [] [] begun.stage) goes.parts
+                (subst (λ keep. Rattle.h1_writer.specs.Sending.Sending keep parts ends begun.text [] [] begun.stage) as_set.keep begun.sending);
             whole = begun.whole;
           },
         )
 
-        goes_so : goes_now setup begun.stage ≡ (at_once || ends)
-        goes_so = ap (λ b. b || is_whole begun.stage) (sym as_set) ∙ ap (λ b. at_once || b) begun.whole
+        goes_so : goes_now setup begun.stage ≡ (outlet.at_once || ends)
+        goes_so = ap (λ b. b || is_whole begun.stage) (sym as_set.at_once) ∙ ap (λ b. outlet.at_once || b) begun.whole
 
         requests : serving.after setup (told_of_rows behind) (with_due old.upstreams Nothing) (serving.Move.Begins noted fields ends route begun.text begun.stage) ≡ with_due new due
         requests =
-            ap (λ b. record (with_due old.upstreams Nothing) { held = held_with id (waits_from b (Waiting route begun.text begun.stage [])) old.upstreams.held; due = serving.to_open b id route begun.text begun.stage }) goes_so
-            ∙ ap (λ (d : Due). record (with_due old.upstreams Nothing) { held = held_with id (waits_from (at_once || ends) (Waiting route begun.text begun.stage [])) old.upstreams.held; due = d }) (sym begun.due_is)
-            ∙ ap (λ b. record (with_due old.upstreams due) { held = held_with id (waits_from (at_once || ends) (Waiting route begun.text begun.stage [])) (held_if b id old.upstreams.held) }) (sym served)
+            ap (λ b. record (with_due old.upstreams Nothing) { held = held_with id (waits_from b (Waiting route begun.text begun.stage [])) old.upstreams.held; due = serving.to_open b (least_idle route (lives old.upstreams.live)) id route begun.text begun.stage }) goes_so
+            ∙ ap (λ (d : Due). record (with_due old.upstreams Nothing) { held = held_with id (waits_from (outlet.at_once || ends) (Waiting route begun.text begun.stage [])) old.upstreams.held; due = d }) (sym begun.due_is)
+            ∙ ap (λ b. record (with_due old.upstreams due) { held = held_with id (waits_from (outlet.at_once || ends) (Waiting route begun.text begun.stage [])) (held_if b id old.upstreams.held) }) (sym served)
             ∙ ap (λ (u : upstreams.State). with_due u due) (sym begun.kept)
 
   -- ---- trailers end one
@@ -155,12 +161,12 @@ module _ (setup : Setup) (old : View) (rest : IsAtRest old) (noted : Noted) (nex
         (leads_there setup old rest run s leads noted next of mild is_noted read gain is_so owed due old.offers (upstream_then hs) refl owes (followed_there run s leads ∙ stays) requests outputs)
 
     ended_waiting : (route : ℕ) (text : List ℕ) (stage : Stage) (body : List ℕ) → held_of id s.requests.held ≡ Some (record { id = id; way = Waiting route text stage body })
-        → (due : Due) (after : Option Way) (hs : List Held) → Gathers id [] (passed_trailers fields) true route text stage body due after → hs ≡ held_with id after old.upstreams.held
+        → (due : Due) (after : Option Way) (hs : List Held) → Gathers (lives old.upstreams.live) id [] (passed_trailers fields) true route text stage body due after → hs ≡ held_with id after old.upstreams.held
         → Course setup run s outputs (Came noted) (record behind_view { upstreams = upstream_then hs }) (record square { owed = owed; due = due }) outputs
     ended_waiting route text stage body found due after hs gathers held_then =
         ends_by due hs gain_now
         (adds_there, record { serving = serving_now gain_now run s leads; found = found; gathered = (gathers.0.continues, refl) })
-        (ap (λ (hs : List Held). with_due (upstream_then hs) (ToOpen id route (text ++ gathers.0.written) Whole)) (ap (λ (o : Option Way). held_with id o old.upstreams.held) (sym gathers.1) ∙ sym held_then)
+        (ap (λ (hs : List Held). with_due (upstream_then hs) (serving.to_begin (least_idle route (lives old.upstreams.live)) id route (text ++ gathers.0.written) Whole)) (ap (λ (o : Option Way). held_with id o old.upstreams.held) (sym gathers.1) ∙ sym held_then)
         ∙ ap (λ (d : Due). with_due (upstream_then hs) d) (sym gathers.0.due_is))
       where
         gain_now : Gain
@@ -184,11 +190,11 @@ module _ (setup : Setup) (old : View) (rest : IsAtRest old) (noted : Noted) (nex
         ends_by due hs (Gain.Drops (Block fields true)) (adds_there, record { serving = serving_now (Gain.Drops (Block fields true)) run s leads; found = found })
         (ap (λ (hs : List Held). with_due (upstream_then hs) Nothing) (sym same) ∙ ap (λ (d : Due). with_due (upstream_then hs) d) (sym nothing))
 
-    pub brings_ended : (due : Due) (hs : List Held) → TakesOf id [] (passed_trailers fields) true old.upstreams.held (held_of id old.upstreams.held) due hs
+    pub brings_ended : (due : Due) (hs : List Held) → TakesOf (lives old.upstreams.live) id [] (passed_trailers fields) true old.upstreams.held (held_of id old.upstreams.held) due hs
         → Course setup run s outputs (Came noted) (record behind_view { upstreams = upstream_then hs }) (record square { owed = owed; due = due }) outputs
-    brings_ended due hs takes = by held.way (ap (λ (xs : List Held). held_of id xs) held_there ∙ held.found) (subst (λ (o : Option Held). TakesOf id [] (passed_trailers fields) true old.upstreams.held o due hs) held.found takes)
+    brings_ended due hs takes = by held.way (ap (λ (xs : List Held). held_of id xs) held_there ∙ held.found) (subst (λ (o : Option Held). TakesOf (lives old.upstreams.live) id [] (passed_trailers fields) true old.upstreams.held o due hs) held.found takes)
       where
-        by : (way : Way) → held_of id s.requests.held ≡ Some (record { id = id; way = way }) → TakesBy id [] (passed_trailers fields) true old.upstreams.held way due hs
+        by : (way : Way) → held_of id s.requests.held ≡ Some (record { id = id; way = way }) → TakesBy (lives old.upstreams.live) id [] (passed_trailers fields) true old.upstreams.held way due hs
             → Course setup run s outputs (Came noted) (record behind_view { upstreams = upstream_then hs }) (record square { owed = owed; due = due }) outputs
         by (Waiting route text stage body) found takes = ended_waiting route text stage body found due takes.0 hs takes.1 takes.2
         by (Going number stage) found takes = ended_going number stage found due takes.0 hs takes.1 takes.2

@@ -31,20 +31,20 @@ use Rattle.relay.specs.Rest.{IsAtRest}
 use Rattle.relay.proofs.Coming.{outside_of, inbound_behind}
 use Rattle.relay.proofs.Heads.{none_cut_behind, begun_if_out}
 use Rattle.relay.proofs.Resets.{inactive}
-use Rattle.serving.specs.State.{is_streaming}
 use Rattle.relay.proofs.HeldFor.{go_on_so}
 use Rattle.steps.specs.block_frames.Following.{IsNewest, farewell_behind}
 use Rattle.steps.specs.Comings.{ComesFrom}
 use Rattle.steps.specs.Inputs.Input.{OfFrame}
 use Rattle.steps.specs.block_frames.Acting.{IsActed, MayAct, IsStopped}
-use Rattle.steps.specs.block_frames.Taken.{IsBlockTaken}
+use Rattle.steps.specs.block_frames.Taken.{IsBlockTaken, IsOutlet}
+use Rattle.steps.specs.declared.block_frames.outlet.Outlet.{Outlet}
 use Rattle.steps.specs.declared.block_frames.taking.BlockTaken.{BlockTaken}
 use Rattle.steps.proofs.block_frames.Before.{left_is, kept_rows, few, not_half, box_there, newest_behind}
 use Rattle.steps.proofs.block_frames.Assembled.{reset_is, fatal_taken, stream_taken, discarded_taken, part_taken, ignored_taken, stream_stopped}
 use Rattle.steps.proofs.block_frames.Requests.{active, ended_is, begun_taken, may_end_then, ended_taken}
 use Rattle.steps.proofs.block_frames.Replies.{replied_taken, replied_stopped}
 
-module _ (setup : Setup) (old : View) (rest : IsAtRest old) (run : List Move) (s : State) (leads : Leads setup run old square s) (frame : Frame) (of : IsOfBlock frame) (at_once : Bool) where
+module _ (setup : Setup) (old : View) (rest : IsAtRest old) (run : List Move) (s : State) (leads : Leads setup run old square s) (frame : Frame) (of : IsOfBlock frame) (outlet : Outlet) where
   abbrev id : ℕ
   id = frame.id
 
@@ -132,13 +132,13 @@ module _ (setup : Setup) (old : View) (rest : IsAtRest old) (run : List Move) (s
 
     -- ---- what comes of it, for any setup
 
-    pub all_taken : (judging : Setup) → at_once ≡ is_streaming judging.passing → (answer : BlockJudged) → IsFragmentJudged judging (outside_of old.untaken) old.inbound frame mid answer → (result : BlockTaken) (new : View) (put_out : List Output) → IsActed id at_once answer (farewell_behind (length old.inbound.rows) mid.rows) mid_view outputs result new put_out → IsBlockTaken judging old outputs frame result new put_out
-    all_taken judging passes (judged.Failed (fault.Connection code)) is result new put_out acted = fatal_taken judging old rest frame mid of rows_are few_are outputs small at_once code is result new put_out acted
-    all_taken judging passes (judged.Failed (fault.Stream code)) is result new put_out acted = stream_taken judging old rest frame mid of rows_are few_are outputs small at_once code is result new put_out acted
-    all_taken judging passes (judged.Failed fault.Discarded) is result new put_out acted = discarded_taken judging old rest frame mid of rows_are few_are outputs small at_once is result new put_out acted
-    all_taken judging passes judged.GoesOn is result new put_out acted = part_taken judging old rest frame mid of rows_are few_are outputs small at_once is result new put_out acted
-    all_taken judging passes judged.Ignored is result new put_out acted = ignored_taken judging old rest frame mid of rows_are few_are outputs small at_once is result new put_out acted
-    all_taken judging passes (judged.Begins head route) is result new put_out acted = begun_taken judging old rest frame mid of rows_are few_are outputs small half calm at_once passes head route is result new put_out acted
+    pub all_taken : (judging : Setup) → IsOutlet judging outlet → (answer : BlockJudged) → IsFragmentJudged judging (outside_of old.untaken) old.inbound frame mid answer → (result : BlockTaken) (new : View) (put_out : List Output) → IsActed id outlet answer (farewell_behind (length old.inbound.rows) mid.rows) mid_view outputs result new put_out → IsBlockTaken judging old outputs frame result new put_out
+    all_taken judging passes (judged.Failed (fault.Connection code)) is result new put_out acted = fatal_taken judging old rest frame mid of rows_are few_are outputs small outlet code is result new put_out acted
+    all_taken judging passes (judged.Failed (fault.Stream code)) is result new put_out acted = stream_taken judging old rest frame mid of rows_are few_are outputs small outlet code is result new put_out acted
+    all_taken judging passes (judged.Failed fault.Discarded) is result new put_out acted = discarded_taken judging old rest frame mid of rows_are few_are outputs small outlet is result new put_out acted
+    all_taken judging passes judged.GoesOn is result new put_out acted = part_taken judging old rest frame mid of rows_are few_are outputs small outlet is result new put_out acted
+    all_taken judging passes judged.Ignored is result new put_out acted = ignored_taken judging old rest frame mid of rows_are few_are outputs small outlet is result new put_out acted
+    all_taken judging passes (judged.Begins head route) is result new put_out acted = begun_taken judging old rest frame mid of rows_are few_are outputs small half calm outlet passes head route is result new put_out acted
     all_taken judging passes (judged.Trailers trailers) is result new put_out acted = ended_taken judging old rest frame mid of rows_are few_are outputs small half calm trailers is result new put_out acted
     all_taken judging passes (judged.Answered why) is result new put_out acted =
         replied_taken judging old rest frame mid of rows_are few_are outputs small half calm why is (none_cut_own judging why is.judged.says.1 is.judged.says.4.0 is.judged.says.4.1) result new put_out acted
@@ -146,7 +146,7 @@ module _ (setup : Setup) (old : View) (rest : IsAtRest old) (run : List Move) (s
     -- Where the connection was ended in place of what it calls for, this is right.
     pub all_stopped : (judging : Setup) (answer : BlockJudged) → IsFragmentJudged judging (outside_of old.untaken) old.inbound frame mid answer → (p : List Output) → IsStopped id answer (farewell_behind (length old.inbound.rows) mid.rows) mid_view outputs p → ComesFrom judging old square outputs (OfFrame frame ∷ []) square None p
     all_stopped judging (judged.Failed (fault.Connection code)) is p stopped = absurd stopped
-    all_stopped judging (judged.Failed (fault.Stream code)) is p stopped = stream_stopped judging old rest frame mid of rows_are few_are outputs small at_once code is p stopped
+    all_stopped judging (judged.Failed (fault.Stream code)) is p stopped = stream_stopped judging old rest frame mid of rows_are few_are outputs small outlet code is p stopped
     all_stopped judging (judged.Failed fault.Discarded) is p stopped = absurd stopped
     all_stopped judging judged.GoesOn is p stopped = absurd stopped
     all_stopped judging judged.Ignored is p stopped = absurd stopped

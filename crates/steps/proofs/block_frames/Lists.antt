@@ -11,7 +11,7 @@ use Rattle.offering.specs.State as offering
 use Rattle.offering.specs.State.{Kept, find, change, without, unless_over, with_new, blank, answered, answered_if}
 use Rattle.offering.proofs.Keeping.{answered_id, answered_if_id, find_gone, find_without, find_changed, find_other}
 use Rattle.offers.specs.Asked.{is_kept, is_above_all}
-use Rattle.serving.specs.State as serving
+use Rattle.serving.specs.Lines as lines
 use Rattle.serving.specs.State.{Held, id_of}
 use Rattle.relay.proofs.Kept.{change_none, changed_goes}
 use Rattle.relay.proofs.Coming.{offers_with}
@@ -75,19 +75,19 @@ offers_gone id c offers =
 
 -- ---- what is held
 
-held_twice : (id : ℕ) (hs : List Held) → serving.without id_of id (serving.without id_of id hs) ≡ serving.without id_of id hs
+held_twice : (id : ℕ) (hs : List Held) → lines.without id_of id (lines.without id_of id hs) ≡ lines.without id_of id hs
 held_twice id [] = refl
 held_twice id (h ∷ hs) = by (h.id == id) refl (held_twice id hs)
   where
-    by : (b : Bool) → (h.id == id) ≡ b → serving.without id_of id (serving.without id_of id hs) ≡ serving.without id_of id hs → serving.without id_of id (if b then serving.without id_of id hs else h ∷ serving.without id_of id hs) ≡ (if b then serving.without id_of id hs else h ∷ serving.without id_of id hs)
+    by : (b : Bool) → (h.id == id) ≡ b → lines.without id_of id (lines.without id_of id hs) ≡ lines.without id_of id hs → lines.without id_of id (if b then lines.without id_of id hs else h ∷ lines.without id_of id hs) ≡ (if b then lines.without id_of id hs else h ∷ lines.without id_of id hs)
     by true is rest = rest
-    by false is rest = ap (λ b. if b then serving.without id_of id (serving.without id_of id hs) else h ∷ serving.without id_of id (serving.without id_of id hs)) is ∙ ap (λ (xs : List Held). h ∷ xs) rest
+    by false is rest = ap (λ b. if b then lines.without id_of id (lines.without id_of id hs) else h ∷ lines.without id_of id (lines.without id_of id hs)) is ∙ ap (λ (xs : List Held). h ∷ xs) rest
 
-pub held_gone : (b : Bool) (id : ℕ) (hs : List Held) → serving.without id_of id (held_if b id hs) ≡ serving.without id_of id hs
+pub held_gone : (b : Bool) (id : ℕ) (hs : List Held) → lines.without id_of id (held_if b id hs) ≡ lines.without id_of id hs
 held_gone true id hs = refl
 held_gone false id hs = held_twice id hs
 
-pub held_by : (b : Bool) (id : ℕ) (hs : List Held) → (if b then hs else serving.without id_of id hs) ≡ held_if b id hs
+pub held_by : (b : Bool) (id : ℕ) (hs : List Held) → (if b then hs else lines.without id_of id hs) ≡ held_if b id hs
 held_by true id hs = refl
 held_by false id hs = refl
 

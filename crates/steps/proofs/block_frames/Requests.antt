@@ -25,7 +25,7 @@ use Rattle.conduct.specs.Book.{Book}
 use Rattle.conduct.specs.Tidy.{AreKept}
 use Rattle.request_rules.specs.Heads.{HeadParts}
 use Rattle.serving.specs.State as serving
-use Rattle.serving.specs.State.{Way, Held, Due, held_of, is_streaming}
+use Rattle.serving.specs.State.{Way, Held, Due, held_of}
 use Rattle.streams_kept.specs.Asked.{is_active}
 use Rattle.judgement.specs.Inbound.{Inbound, book_of, told_of}
 use Rattle.judgement.specs.Blocks.{SaysOf}
@@ -49,7 +49,8 @@ use Rattle.relay.proofs.Coming.{outside_of, inbound_behind}
 use Rattle.relay.proofs.HeldFor.{held_for, within_length, begun_active}
 use Rattle.steps.specs.block_frames.Following.{followed, dropped_by, farewell_behind, farewell_frames}
 use Rattle.steps.specs.block_frames.Acting.{HasBegun, HasEnded}
-use Rattle.steps.specs.block_frames.Taken.{IsBlockTaken}
+use Rattle.steps.specs.block_frames.Taken.{IsBlockTaken, IsOutlet}
+use Rattle.steps.specs.declared.block_frames.outlet.Outlet.{Outlet}
 use Rattle.steps.specs.declared.block_frames.taking.BlockTaken.{BlockTaken}
 use Rattle.steps.specs.declared.block_frames.taking.BlockTaken.TheVariants as taken
 use Rattle.steps.proofs.block_frames.Before.{left_is}
@@ -107,9 +108,9 @@ module _ (setup : Setup) (old : View) (rest : IsAtRest old) (frame : Frame) (mid
           ∙ ap (λ (c : Option Cause). first_of_both c None) (calm on)
 
   -- a request begins
-  pub begun_taken : (at_once : Bool) → at_once ≡ is_streaming setup.passing → (head : HeadParts) (route : ℕ) (is : IsFragmentJudged setup (outside_of old.untaken) old.inbound frame mid (judged.Begins head route)) (result : BlockTaken) (new : View) (put_out : List Output) → HasBegun id route head at_once last (record old { inbound = mid }) outputs result new put_out → IsBlockTaken setup old outputs frame result new put_out
-  begun_taken at_once as_set head route is (taken.Fatal code) new put_out acted = absurd acted.begun
-  begun_taken at_once as_set head route is (taken.Goes due farewell_left dropped) new put_out acted = record {
+  pub begun_taken : (outlet : Outlet) → IsOutlet setup outlet → (head : HeadParts) (route : ℕ) (is : IsFragmentJudged setup (outside_of old.untaken) old.inbound frame mid (judged.Begins head route)) (result : BlockTaken) (new : View) (put_out : List Output) → HasBegun id route head outlet last (record old { inbound = mid }) outputs result new put_out → IsBlockTaken setup old outputs frame result new put_out
+  begun_taken outlet as_set head route is (taken.Fatal code) new put_out acted = absurd acted.begun
+  begun_taken outlet as_set head route is (taken.Goes due farewell_left dropped) new put_out acted = record {
     note = is.note;
     brings =
         subst (λ (o : List Output). Brings setup old square outputs (Came noted_here) new (record square { owed = farewell_frames farewell_left; due = due_by due; shared = dropped }) o) (sym acted.puts)
@@ -118,11 +119,11 @@ module _ (setup : Setup) (old : View) (rest : IsAtRest old) (frame : Frame) (mid
         (subst (λ n. Brings setup old square outputs (Came noted_here) (record (followed id (record old { inbound = there })) { upstreams = new.upstreams }) (record square { owed = farewell_frames last; due = due_by due; shared = n }) outputs) (sym (acted.begun.2 ∙ ap (λ (i : Inbound). dropped_by id (record old { inbound = i })) same))
         (brings_begun setup old rest noted_here is.next of (ap is_fatal is.judged.faultless) is.is_noted is.read (of_stream (judged.Begins head route) is is.judged.faultless says.0 says.2 says.1 says.3) live (no_reply (judged.Begins head route) is is.judged.faultless says.0 says.2 says.1 says.3 says.4.1 none) says.1 says.0.ends route
         (whole_gain setup book noted_here of few_rows is.judged.faultless says.0 says.2 says.1 says.3 (judged.Begins head route) says.4)
-        at_once as_set (farewell_frames last)
+        outlet as_set (farewell_frames last)
         (whole_owes setup book noted_here of few_rows is.judged.faultless says.0 says.2 says.1 says.3 (judged.Begins head route) says.4 ∙ append-nil _ ∙ farewell setup old rest frame mid of kept few_rows outputs small (judged.Begins head route) is (ap (λ (i : Inbound). ids_of i.rows) same))
         head says.4.2 (due_by due) new.upstreams
-        (subst (λ b. Begins (followed id (record old { inbound = there })).upstreams id route head b at_once (due_by due) new.upstreams) (ended_is (judged.Begins head route) is is.judged.faultless says.0 says.2 says.1 says.3)
-        (subst (λ (i : Inbound). Begins (followed id (record old { inbound = i })).upstreams id route head (find i.rows id).ended_by_client at_once (due_by due) new.upstreams) same acted.begun.0)) outputs))));
+        (subst (λ b. Begins (followed id (record old { inbound = there })).upstreams id route outlet.keep head b outlet.at_once (due_by due) new.upstreams) (ended_is (judged.Begins head route) is is.judged.faultless says.0 says.2 says.1 says.3)
+        (subst (λ (i : Inbound). Begins (followed id (record old { inbound = i })).upstreams id route outlet.keep head (find i.rows id).ended_by_client outlet.at_once (due_by due) new.upstreams) same acted.begun.0)) outputs))));
     none_cut = subst (λ (v : View). NoneCut v.offers) (sym acted.kept) (cut_followed (is_active mid.rows id) id old.offers rest.none_cut);
     about = about_so setup old rest frame mid of kept few_rows outputs small (judged.Begins head route) is (ap is_fatal is.judged.faultless) new (ap (λ (v : View). v.inbound.rows) acted.kept ∙ ap (λ (i : Inbound). i.rows) same) (ap (λ (u : upstreams.State). lives u.live) acted.begun.0.kept);
     alone = λ some crowded. farewell_alone setup old rest frame mid of kept few_rows outputs small (judged.Begins head route) is new (ap (λ (v : View). v.untaken) acted.kept) (ap (λ (i : Inbound). ids_of i.rows) same) is.judged.faultless farewell_left acted.begun.1 some crowded (due_by due);
@@ -182,6 +183,7 @@ module _ (setup : Setup) (old : View) (rest : IsAtRest old) (frame : Frame) (mid
         by : (way : Way) → GoesBy brief way → MayTake [] true way
         by (serving.Way.Waiting route text stage body) goes = λ last. goes.may_end [] ends_so.1
         by (serving.Way.Going number stage) goes = record {
+          keep = goes.keep;
           parts = goes.parts;
           ended = false;
           text = goes.text;
@@ -209,7 +211,7 @@ module _ (setup : Setup) (old : View) (rest : IsAtRest old) (frame : Frame) (mid
           (begun_active old.inbound.rows kept id says_then.4.0) run s leads (held_so run s leads says_then.4.0 says_then.4.1)
           (farewell_frames last)
           (whole_owes setup book noted_then of few_rows is.judged.faultless says_then.0 says_then.2 says_then.1 says_then.3 (judged.Trailers trailers) says_then.4 ∙ append-nil _ ∙ farewell setup old rest frame mid of kept few_rows outputs small (judged.Trailers trailers) is (ap (λ (i : Inbound). ids_of i.rows) same))
-          outputs acted.due new.upstreams.held (subst (λ (xs : List Field). TakesOf id [] xs true old.upstreams.held (held_of id old.upstreams.held) acted.due new.upstreams.held) says_then.4.3 acted.takes))))));
+          outputs acted.due new.upstreams.held (subst (λ (xs : List Field). TakesOf (lives old.upstreams.live) id [] xs true old.upstreams.held (held_of id old.upstreams.held) acted.due new.upstreams.held) says_then.4.3 acted.takes))))));
       none_cut = subst (λ (v : View). NoneCut v.offers) (sym acted.kept) rest.none_cut;
       about = about_so setup old rest frame mid of kept few_rows outputs small (judged.Trailers trailers) is (ap is_fatal is.judged.faultless) new (ap (λ (v : View). v.inbound.rows) acted.kept ∙ ap (λ (i : Inbound). i.rows) same) (ap (λ (v : View). lives v.upstreams.live) acted.kept);
       alone = λ some crowded. farewell_alone setup old rest frame mid of kept few_rows outputs small (judged.Trailers trailers) is new (ap (λ (v : View). v.untaken) acted.kept) (ap (λ (i : Inbound). ids_of i.rows) same) is.judged.faultless farewell_left acted.goes.1 some crowded (due_by due);

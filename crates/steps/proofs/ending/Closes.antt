@@ -8,14 +8,14 @@ use Rattle.model.specs.Logs.Output.{Does}
 use Rattle.model.specs.Logs.Act.{Close}
 use Rattle.model.specs.Tapes.{Entry, put}
 use Rattle.model.specs.Tapes.Entry.{Did}
-use Rattle.serving.specs.State.{Live}
+use Rattle.serving.specs.Lines.{Line}
 use Rattle.streams_kept.proofs.Lists.{map-reverse}
 use Rattle.upstreams.specs.Connections.{Connection, lives}
 use Rattle.policy.specs.Ending.{closed_all}
 use Rattle.relay.specs.Performing.{put_all}
 
 -- one more is closed behind some
-closed_behind : (ls : List Live) (l : Live) → closed_all (ls ++ l ∷ []) ≡ Did (Close l.k) ∷ closed_all ls
+closed_behind : (ls : List Line) (l : Line) → closed_all (ls ++ l ∷ []) ≡ Did (Close l.k) ∷ closed_all ls
 closed_behind [] l = refl
 closed_behind (x ∷ ls) l = ap (λ (t : List Entry). t ++ Did (Close x.k) ∷ []) (closed_behind ls l)
 

@@ -12,7 +12,7 @@ use Rattle.conduct.specs.Owing.{highest_in, opened_after, code_of_farewell_in}
 use Rattle.conduct.specs.Book.{Book}
 use Rattle.conduct.specs.Rows.{Row, ids_of}
 use Rattle.serving.specs.State as serving
-use Rattle.serving.specs.State.{Live}
+use Rattle.serving.specs.Lines.{Line}
 use Rattle.upstreams.specs.Connections.{lives}
 use Rattle.upstreams.specs.Kept as upstreams
 use Rattle.policy.specs.Moves.{Deed, Move, entry_of}
@@ -70,7 +70,7 @@ module _ (s : State) where
 
 -- ---- what is the gateway's own
 
-pub closed_own : (ls : List Live) → AreOwn (closed_all ls)
+pub closed_own : (ls : List Line) → AreOwn (closed_all ls)
 closed_own [] = tt
 closed_own (l ∷ ls) = own_behind (closed_all ls) (Did (Close l.k) ∷ []) (closed_own ls) tt
 
@@ -93,7 +93,7 @@ pub ends : (setup : Setup) (run : List Move) (s : State) (before kept : View) (w
 ends setup run s before kept why d outputs told put_out tells closes same_upstreams same_rows same_untaken leads by =
     closes
     ∙ ap (λ (o : List Output). put_all o (Did CloseClient ∷ closed_all (reverse (lives kept.upstreams.live)))) (tells ∙ farewell)
-    ∙ ap (λ (ls : List Live). put_all (put_all outputs (frames_sent (farewell_by s d) ++ entry_of d ∷ [])) (Did CloseClient ∷ closed_all (reverse ls))) (sym live)
+    ∙ ap (λ (ls : List Line). put_all (put_all outputs (frames_sent (farewell_by s d) ++ entry_of d ∷ [])) (Did CloseClient ∷ closed_all (reverse ls))) (sym live)
     ∙ sym (put_behind outputs (Did CloseClient ∷ closed_all (by_number s)) (frames_sent (farewell_by s d) ++ entry_of d ∷ []))
   where
     live : s.requests.live ≡ lives kept.upstreams.live

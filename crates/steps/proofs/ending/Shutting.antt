@@ -19,7 +19,7 @@ use Rattle.conduct.proofs.Knowing.{known_so}
 use Rattle.offering.specs.State as offering
 use Rattle.offering.specs.Sight.{sight_in, windows_in}
 use Rattle.serving.specs.State as serving
-use Rattle.serving.specs.State.{Live, k_of, live_of, without}
+use Rattle.serving.specs.Lines.{Line, k_of, line_of, without}
 use Rattle.serving.specs.State.Due.{Nothing}
 use Rattle.serving.specs.Rule.{is_done}
 use Rattle.judgement.proofs.SendingEvents.{closes_lead, shuts_lead, did_desk}
@@ -49,7 +49,7 @@ use Rattle.steps.proofs.ending.Farewells.{apart_in, closed_own}
 -- ---- what holds until the client is closed
 
 -- The moves led to this state, in which the connection is to end, though nothing that came calls for it; these connections are open yet.
-record IsSpent (setup : Setup) (run : List Move) (s : State) (ls : List Live) : Type 0 where
+record IsSpent (setup : Setup) (run : List Move) (s : State) (ls : List Line) : Type 0 where
   pub stands : Stands setup run s
   pub so : AreSo setup run
   pub ends : must_end_in (told_by s) ≡ true
@@ -63,7 +63,7 @@ record IsSpent (setup : Setup) (run : List Move) (s : State) (ls : List Live) : 
 
 -- ---- a connection is closed
 
-module _ (setup : Setup) (run : List Move) (s : State) (l : Live) (ls : List Live) (apart : live_of l.k ls ≡ None) (spent : IsSpent setup run s (ls ++ l ∷ [])) where
+module _ (setup : Setup) (run : List Move) (s : State) (l : Line) (ls : List Line) (apart : line_of l.k ls ≡ None) (spent : IsSpent setup run s (ls ++ l ∷ [])) where
   abbrev closes : Deed
   closes = Acts (Close l.k)
 
@@ -77,8 +77,8 @@ module _ (setup : Setup) (run : List Move) (s : State) (l : Live) (ls : List Liv
       nothing = spent.owes;
       may = record {
         nothing = spent.due;
-        live = l;
-        found = ap (λ (xs : List Live). live_of l.k xs) spent.live ∙ last_found l ls apart;
+        line = l;
+        found = ap (λ (xs : List Line). line_of l.k xs) spent.live ∙ last_found l ls apart;
         why = inr spent.ends;
       };
     }),
@@ -92,7 +92,7 @@ module _ (setup : Setup) (run : List Move) (s : State) (l : Live) (ls : List Liv
     open_yet = ap (λ (d : Desk). d.book.closed) same_desk ∙ spent.open_yet;
     owes = ap (λ (d : Desk). d.queue) same_desk ∙ spent.owes;
     none_begun = ap (λ (d : Desk). d.book.block_out) same_desk ∙ spent.none_begun;
-    live = ap (λ (xs : List Live). without k_of l.k xs) spent.live ∙ last_goes l ls apart;
+    live = ap (λ (xs : List Line). without k_of l.k xs) spent.live ∙ last_goes l ls apart;
     due = spent.due;
     read = spent.read;
     none_kept = spent.none_kept;
@@ -104,13 +104,13 @@ record AreClosed (setup : Setup) (run : List Move) (s : State) (moves : List Mov
   pub by_rule : policy.Leads setup s moves state
   pub spent : IsSpent setup (moves ++ run) state []
 
-close_each : (setup : Setup) (ls : List Live) (run : List Move) (s : State) → AreApart (reverse ls) → IsSpent setup run s (reverse ls) → AreClosed setup run s (closes_of ls)
+close_each : (setup : Setup) (ls : List Line) (run : List Move) (s : State) → AreApart (reverse ls) → IsSpent setup run s (reverse ls) → AreClosed setup run s (closes_of ls)
 close_each setup [] run s apart spent = record { state = s; by_rule = refl; spent = spent }
 close_each setup (l ∷ ls) run s apart spent =
     let m : Move = Does (Acts (Close l.k)) in
     let is : reverse (l ∷ ls) ≡ reverse ls ++ l ∷ [] = reverse-append (l ∷ []) ls in
     let last = last_apart l (reverse ls) (subst AreApart is apart) in
-    let so : IsSpent setup run s (reverse ls ++ l ∷ []) = subst (λ (xs : List Live). IsSpent setup run s xs) is spent in
+    let so : IsSpent setup run s (reverse ls ++ l ∷ []) = subst (λ (xs : List Line). IsSpent setup run s xs) is spent in
     let rest = close_each setup ls (m ∷ run) (next setup s m) last.1 (closed_one setup run s l (reverse ls) last.0 so) in
     record {
       state = rest.state;
@@ -156,7 +156,7 @@ module _ (setup : Setup) (run : List Move) (s : State) (spent : IsSpent setup ru
       none_cut = λ few. not_found s.offers.kept spent.none_kept;
       none_ready = λ few. ap (λ (ks : List offering.Kept). offering.ready (windows_in (sight_in (told_by shut_state))) (record { kept = ks; last = s.offers.last })) spent.none_kept;
     };
-    served = record { nothing = spent.due; none_done = ap (λ (ls : List Live). list_any (is_done (told_in (told_by shut_state))) ls) spent.live; ended = λ ends. is_closed };
+    served = record { nothing = spent.due; none_done = ap (λ (ls : List Line). list_any (is_done (told_in (told_by shut_state))) ls) spent.live; ended = λ ends. is_closed };
     read = spent.read;
     given_back = λ open_yet. absurd (let no : true ≡ false = sym is_closed ∙ open_yet in cc);
   }
@@ -168,7 +168,7 @@ module _ (setup : Setup) (run : List Move) (s : State) (spent : IsSpent setup ru
 
 -- ---- what is on the tape
 
-closes_tape : (ls : List Live) → tape_of (closes_of ls) ≡ closed_all ls
+closes_tape : (ls : List Line) → tape_of (closes_of ls) ≡ closed_all ls
 closes_tape [] = refl
 closes_tape (l ∷ ls) = tape_behind (closes_of ls) (Does (Acts (Close l.k)) ∷ []) ∙ ap (λ (t : List Entry). t ++ Did (Close l.k) ∷ []) (closes_tape ls)
 
@@ -219,14 +219,14 @@ module _ (setup : Setup) (run : List Move) (kept : View) (s : State) (fresh back
   apart = subst AreApart (ap (λ (r : serving.State). r.live) leads.keeps.requests) (apart_in setup run s leads.stands)
 
   -- open connections by rising number
-  abbrev rising : List Live
+  abbrev rising : List Line
   rising = reverse (lives kept.upstreams.live)
 
   turned : lives kept.upstreams.live ≡ reverse rising
   turned = sym (reverse-reverse (lives kept.upstreams.live))
 
   abbrev closed : AreClosed setup run s (closes_of rising)
-  closed = close_each setup rising run s (subst AreApart turned apart) (subst (λ (ls : List Live). IsSpent setup run s ls) turned is_spent)
+  closed = close_each setup rising run s (subst AreApart turned apart) (subst (λ (ls : List Line). IsSpent setup run s ls) turned is_spent)
 
   abbrev behind : List Move
   behind = closes_of rising ++ run

@@ -1,8 +1,8 @@
 -- An upstream's answer fails: the gateway replies to its stream itself, and the connection is closed, or is open still, or is gone with it. This
 -- performs.
-use Rattle.std.proofs.Common.{◌≡◌, ℕ, Bool, true, false, not, ◌&&◌, ◌||◌, ◌==◌, List, [], ◌∷◌, map, Option, Some, None, refl, sym, ◌∙◌, ap, subst, inl, inr, if◌then◌else◌}
+use Rattle.std.proofs.Common.{◌≡◌, ℕ, true, false, not, ◌&&◌, ◌==◌, List, [], ◌∷◌, map, Option, Some, None, refl, sym, ◌∙◌, ap, subst, inl, inr, if◌then◌else◌}
 use Rattle.std.specs.Prelude.{option_map, is_none}
-use Rattle.std.proofs.lemmas.Bool.{ne_eqb, and_parts, or_right}
+use Rattle.std.proofs.lemmas.Bool.{ne_eqb, eq-eqb, and_parts}
 use Rattle.std.proofs.lemmas.Bool.Decides.{eqb_tells}
 use Rattle.model.specs.Frames.{Frame, internal_error}
 use Rattle.model.specs.Logs.{Event, Output}
@@ -20,7 +20,6 @@ use Rattle.model.specs.Lifetimes.{is_opened, is_over, is_active}
 use Rattle.model.specs.Causes.{Cause}
 use Rattle.model.specs.Courses.{course, items, upstream_of}
 use Rattle.model.proofs.OpenedLaws.{none_zero}
-use Rattle.model.proofs.ItemLaws.{head_stays}
 use Rattle.conduct.specs.Judging.{is_active_in}
 use Rattle.conduct.specs.Rule.{AreKnown}
 use Rattle.conduct.specs.Rows as rows
@@ -31,9 +30,12 @@ use Rattle.receiving.specs.Policy.{Gates, may_come}
 use Rattle.receiving.specs.State as receiving
 use Rattle.serving.specs.Told.{Told}
 use Rattle.serving.specs.State as serving
-use Rattle.serving.specs.State.{Held, Live, find, id_of, k_of, live_of, without, drop_from}
+use Rattle.serving.specs.Lines.{Heard, Line, k_of, line_of, find, without, is_idle, lines_heard, with_answer, answer_by, idle_beside}
+use Rattle.serving.specs.Lines.Answer.{Idle}
+use Rattle.serving.specs.Lines.Heard.{Partly, Keepable, Finished}
+use Rattle.serving.specs.State.{Held, id_of, drop_from}
 use Rattle.serving.specs.State.Due.{Nothing}
-use Rattle.serving.specs.Rule.{is_done}
+use Rattle.serving.specs.Rule.{is_done, is_done_by}
 use Rattle.serving.proofs.Lists.{found_key, find_gone, find_map}
 use Rattle.streams_kept.specs.Asked as asked
 use Rattle.judgement.specs.Inbound.{book_of}
@@ -41,7 +43,8 @@ use Rattle.judgement.specs.Sending.{behind_failure, reset_if_out}
 use Rattle.judgement.proofs.SendingEvents.{fails_lead, closes_lead, happened_desk, did_desk}
 use Rattle.upstreams.specs.Kept as upstreams
 use Rattle.answers.specs.Waiting.{Answer}
-use Rattle.upstreams.specs.Connections.{Connection, number_of, lives, answer_at}
+use Rattle.answers.specs.HeldInside.{octets_of}
+use Rattle.upstreams.specs.Connections.{Connection, number_of, lives, answer_at, heard_at}
 use Rattle.policy.specs.Moves.{Deed, Move, conduct_of, told_in, failed as failed_request}
 use Rattle.policy.specs.Moves.Deed.{Fails, Acts}
 use Rattle.policy.specs.Moves.Move.{Does}
@@ -53,55 +56,34 @@ use Rattle.policy.specs.Steps.{told_by, told_behind, next, MayGoOn, Stands}
 use Rattle.policy.proofs.Coming.{may_fail}
 use Rattle.policy.proofs.Going.{may_act}
 use Rattle.policy.proofs.Stepping.{one_more}
-use Rattle.relay.specs.View.{View, Pending, square, GoBack, IsCredited, AreMarked, Leads, AreSo, AreHeard}
+use Rattle.relay.specs.View.{View, Pending, square, newest_in, GoBack, IsCredited, AreMarked, Leads, AreSo, AreHeard}
 use Rattle.relay.specs.Hearing.{IsHeard}
 use Rattle.relay.specs.Rest.{IsAtRest}
 use Rattle.relay.specs.Bringing.{Course}
 use Rattle.relay.proofs.Hearing.{items_behind_event}
-use Rattle.relay.proofs.Kept.{AreServed, held_behind}
-use Rattle.relay.proofs.Lives.{lives_closed, lives_same}
+use Rattle.relay.proofs.Idles.{finished_closed}
+use Rattle.relay.proofs.Kept.{held_behind, served_dropped}
+use Rattle.relay.proofs.Lives.{lives_closed, lives_same, lives_heard}
 use Rattle.relay.proofs.Marking.{rooms_next, marked_event}
 use Rattle.relay.proofs.Sound as sound
-use Rattle.relay.proofs.Staying.{so_stays, found_live, found_before, open_begun, calm_before, rows_kept, all_held_served}
+use Rattle.relay.proofs.Staying.{so_stays, found_live, found_before, found_from, open_begun, calm_before, heard_by_entry, rows_kept, all_held_served}
 use Rattle.relay.proofs.Where.{led_to, right_here}
 use Rattle.steps.specs.exchanges.Giving.{replied_to, closed_at}
 use Rattle.steps.specs.exchanges.Taking.{answered_with}
 use Rattle.steps.proofs.exchanges.Coming as coming
 use Rattle.steps.proofs.exchanges.FailedRows as failing
-use Rattle.steps.proofs.exchanges.Hears.{unanswered}
 
--- a connection that goes, whether its response is whole or not
-without_answered : (w : Bool) (k : ℕ) (ls : List Live) → without k_of k (map (serving.answered w k) ls) ≡ without k_of k ls
-without_answered w k [] = refl
-without_answered w k (l ∷ ls) = by (l.k == k) refl (without_answered w k ls)
-  where
-    by : (b : Bool) → (l.k == k) ≡ b → without k_of k (map (serving.answered w k) ls) ≡ without k_of k ls → without k_of k (map (serving.answered w k) (l ∷ ls)) ≡ without k_of k (l ∷ ls)
-    by true is more =
-        ap (λ b. if b then without k_of k (map (serving.answered w k) ls) else serving.answered w k l ∷ without k_of k (map (serving.answered w k) ls)) is
-        ∙ more ∙ sym (ap (λ b. if b then without k_of k ls else l ∷ without k_of k ls) is)
-    by false is more =
-        ap (λ b. if b then without k_of k (map (serving.answered w k) ls) else serving.answered w k l ∷ without k_of k (map (serving.answered w k) ls)) is
-        ∙ ap (λ b. let x : Live = record { k = l.k; stream = l.stream; whole = if b then w else l.whole } in x ∷ without k_of k (map (serving.answered w k) ls)) is
-        ∙ ap (λ (xs : List Live). l ∷ xs) more
-        ∙ sym (ap (λ b. if b then without k_of k ls else l ∷ without k_of k ls) is)
+-- a connection that goes, whatever was heard of its response
+without_heard : (k : ℕ) (heard : Heard) (cs : List Connection) → without k_of k (lines_heard k heard (lives cs)) ≡ without k_of k (lives cs)
+without_heard k heard cs =
+    ap (λ ls. without k_of k ls) (sym (lives_heard k heard cs)) ∙ sym (lives_closed k (heard_at k heard cs))
+    ∙ ap lives (finished_closed k (answer_by (idle_beside k (lives cs)) heard) cs) ∙ lives_closed k cs
 
--- what is held is of the same streams where some of it is dropped
-served_dropped : (told : Told) (k : ℕ) (hs : List Held) → AreServed told hs → AreServed told (map (drop_from k) hs)
-served_dropped told k [] are = tt
-served_dropped told k (h ∷ hs) are = (are.0, served_dropped told k hs are.1)
-
--- a connection that is found where an answer changed was there before, and is that one, or is as it was
-record IsFrom (k : ℕ) (answer : Answer) (cs : List Connection) (j : ℕ) (now : Connection) : Type 0 where
-  pub before : Connection
-  pub there : find number_of j cs ≡ Some before
-  pub is : answer_at k answer before ≡ now
-
-found_from : (k : ℕ) (answer : Answer) (cs : List Connection) (j : ℕ) (now : Connection) → find number_of j (map (answer_at k answer) cs) ≡ Some now → IsFrom k answer cs j now
-found_from k answer cs j now is = by (find number_of j cs) refl (sym (find_map number_of (answer_at k answer) (λ y. refl) j cs) ∙ is)
-  where
-    by : (o : Option Connection) → find number_of j cs ≡ o → option_map (answer_at k answer) o ≡ Some now → IsFrom k answer cs j now
-    by None there none = let clash : ◌≡◌ {A = Option Connection} None (Some now) = none in cc
-    by (Some y) there some = record { before = y; there = there; is = let same : answer_at k answer y ≡ now = cc in same }
+-- behind one that failed a connection whose stream isn't served is done with
+failed_done : (others : ℕ) (heard : Heard) → (heard ≡ Keepable → ⊥) → is_done_by (answer_by others heard) false ≡ true
+failed_done others Partly never = refl
+failed_done others Keepable never = absurd (never refl)
+failed_done others Finished never = refl
 
 -- the reset that is owed, where a final head is out
 abbrev pub resets_for : View → ℕ → List Frame
@@ -113,10 +95,10 @@ pub record FailsBy (setup : Setup) (kept : View) (run : List Move) (s : State) (
   pub opened : (setup.passing ≡ Whole → ⊥) → (answer : Answer) → Course setup run s outputs entry (replied_to stream (answered_with k answer kept.offers kept)) (record square { owed = resets_for kept stream }) outputs
   pub closed : resets_for kept stream ≡ [] → Course setup run s outputs entry (closed_at k (replied_to stream kept)) (record square { owed = resets_for kept stream }) (put outputs (Puts (Close k)))
 
-module _ (setup : Setup) (kept : View) (rest : IsAtRest kept) (run : List Move) (s : State) (leads : Leads setup run kept square s) (k : ℕ) (c : Connection) (found : find number_of k kept.upstreams.live ≡ Some c)
+module _ (setup : Setup) (kept : View) (rest : IsAtRest kept) (run : List Move) (s : State) (leads : Leads setup run kept square s) (k : ℕ) (c : Connection) (found : find number_of k kept.upstreams.live ≡ Some c) (working : is_idle c.live.answer ≡ false)
     (event : Event) (of : upstream_of event ≡ k) (breaks_off : MayBreakOff event)
     (quiet : (x : receiving.State) → receiving.with_event x event ≡ record x { settled = false }) (comes : (gates : Gates) (rooms : receiving.State) → gates.is_up k ≡ true → may_come gates rooms event ≡ true)
-    (w : Bool) (so : (known : Known) → known.setup ≡ setup → AreKnown known (conducts run) → IsAnswered known (tape_of run) (Fails event c.live.stream w)) where
+    (w : Heard) (never : w ≡ Keepable → ⊥) (so : (known : Known) → known.setup ≡ setup → AreKnown known (conducts run) → IsAnswered known (tape_of run) (Fails event c.live.stream w)) where
   abbrev stream : ℕ
   stream = c.live.stream
 
@@ -133,16 +115,16 @@ module _ (setup : Setup) (kept : View) (rest : IsAtRest kept) (run : List Move) 
   one_run = Does deed ∷ run
 
   active_here : asked.is_active book.rows stream ≡ true
-  active_here = (coming.event_of setup kept rest run s leads k c found event of).active
+  active_here = (coming.event_of setup kept rest run s leads k c found working event of).active
 
   no_cause : (rows.find book.rows stream).brief.cause ≡ None
-  no_cause = (coming.event_of setup kept rest run s leads k c found event of).no_cause
+  no_cause = (coming.event_of setup kept rest run s leads k c found working event of).no_cause
 
   given_here : given (upstream_of event) book.given ≡ stream
   given_here =
       ap (λ n. given n book.given) of
       ∙ ap (λ (os : List Opened). given k os) (right_here setup run s leads.stands leads.so).given
-      ∙ coming.given_is_stream setup kept rest run s leads k c found
+      ∙ coming.given_is_stream setup kept rest run s leads k c found working
 
   stream_some : (stream == 0) ≡ false
   stream_some = ne_eqb stream 0 (λ zero.
@@ -156,13 +138,13 @@ module _ (setup : Setup) (kept : View) (rest : IsAtRest kept) (run : List Move) 
   desk_one : desk_after setup s.desk (conduct_of deed) ≡ record { book = behind_failure book stream; queue = reset_if_out book stream }
   desk_one =
       happened_desk setup true s.desk event (behind_failure book stream) (reset_if_out book stream)
-      (fails_lead setup book event stream (rows_kept setup run s leads.stands) (ap (λ n. n == 0) of ∙ coming.number_some setup kept rest run s leads k c found) given_here stream_some)
+      (fails_lead setup book event stream (rows_kept setup run s leads.stands) (ap (λ n. n == 0) of ∙ coming.number_some setup kept rest run s leads k c found working) given_here stream_some)
 
   may_one : MayGoOn setup s (Does deed)
   may_one = (
     ap (λ (d : Desk). d.book.ends) desk_one,
-    may_fail setup (told_behind setup s deed) s (coming.ready setup kept rest run s leads k c found) event stream w (record {
-      answer = coming.may_answer setup kept rest run s leads k c found event of comes;
+    may_fail setup (told_behind setup s deed) s (coming.ready setup kept rest run s leads k c found working) event stream w (record {
+      answer = coming.may_answer setup kept rest run s leads k c found working event of comes;
       of_upstream = breaks_off;
       about = ap (λ n. is_active_in n (told_by s)) given_here ∙ active_here;
       caused = ap (λ (d : Desk). (rows.find d.book.rows stream).brief.cause) desk_one ∙ failing.cause_then book.rows stream active_here no_cause;
@@ -205,8 +187,10 @@ module _ (setup : Setup) (kept : View) (rest : IsAtRest kept) (run : List Move) 
   abbrev rooms : receiving.State
   rooms = rooms_in (told_by s) s
 
-  marked_one : AreMarked setup.passing kept.marks (rooms_in (told_by one) one)
-  marked_one = subst (AreMarked setup.passing kept.marks) (sym (rooms_next setup run s leads.stands leads.so deed may_one so_one ∙ quiet rooms)) (marked_event setup.passing kept.marks rooms leads.marked)
+  marked_one : AreMarked setup.passing (newest_in one) kept.marks (rooms_in (told_by one) one)
+  marked_one =
+      subst (λ (os : List Opened). AreMarked setup.passing (λ j. given j os) kept.marks (rooms_in (told_by one) one)) (sym (ap (λ (d : Desk). d.book.given) desk_one))
+      (subst (AreMarked setup.passing (newest_in s) kept.marks) (sym (rooms_next setup run s leads.stands leads.so deed may_one so_one ∙ quiet rooms)) (marked_event setup.passing (newest_in s) kept.marks rooms leads.marked))
 
   abbrev new : View
   new = replied_to stream kept
@@ -244,61 +228,78 @@ module _ (setup : Setup) (kept : View) (rest : IsAtRest kept) (run : List Move) 
 
   -- ---- answers of the others
 
-  begun_one : (known : Known) → known.setup ≡ setup → AreKnown known (conducts run) → (j : ℕ) (x : Connection) → find number_of j kept.upstreams.live ≡ Some x → items known (given j (exchanges (tape_of run))) (Happened event ∷ tape_of run) ≡ [] → ⊥
-  begun_one known same knows j x there none =
-      open_begun setup run s leads.stands leads.so kept.upstreams.live (coming.lives_are setup kept rest run s leads k c found) known same knows j x there
-      (sym (items_behind_event known (tape_of run) event (given j (exchanges (tape_of run)))) ∙ none)
-
   apart_from : (j : ℕ) (x : Connection) → find number_of j (without number_of k kept.upstreams.live) ≡ Some x → j ≡ k → ⊥
   apart_from j x is same = let clash : ◌≡◌ {A = Option Connection} None (Some x) = sym (find_gone number_of k kept.upstreams.live) ∙ ap (λ n. find number_of n (without number_of k kept.upstreams.live)) (sym same) ∙ is in absurd (let no : ◌≡◌ {A = Option Connection} None (Some x) = clash in cc)
 
   heard_one : AreHeard setup one_run (without number_of k kept.upstreams.live)
-  heard_one known same knows j x is on calm =
-      coming.heard_beside setup kept rest run s leads k c found event of known same knows.0 j x (apart_from j x is) (found_before k j kept.upstreams.live x is) on calm
+  heard_one = record {
+    so = λ known same knows j x is on calm.
+        coming.others_heard setup kept rest run s leads k c found working event of known same knows.0 j x (apart_from j x is) (found_before k j kept.upstreams.live x is) on calm;
+    none_idle = λ j x is. leads.heard.none_idle j x (found_before k j kept.upstreams.live x is);
+  }
 
   module _ (as_heard : failed_request event w ≡ serving.Move.Hears event w) where
-    requests_one : one.requests ≡ record { held = without id_of stream kept.upstreams.held; live = map (serving.answered w k) (lives kept.upstreams.live); due = Nothing; count = kept.upstreams.count }
+    requests_one : one.requests ≡ record { held = without id_of stream kept.upstreams.held; live = lines_heard k w (lives kept.upstreams.live); due = Nothing; count = kept.upstreams.count }
     requests_one =
         ap (λ (m : serving.Move). serving.after setup (told_in (told_behind setup s deed)) s.requests m) as_heard
         ∙ ap (λ (d : Desk). serving.after setup (told_in (summary_in d.book)) s.requests (serving.Move.Hears event w)) desk_one
-        ∙ ap (λ (hs : List Held). record { held = hs; live = map (serving.answered w (upstream_of event)) s.requests.live; due = s.requests.due; count = s.requests.count }) held_one
-        ∙ ap (λ n. record { held = without id_of stream s.requests.held; live = map (serving.answered w n) s.requests.live; due = s.requests.due; count = s.requests.count }) of
-        ∙ ap (λ (r : serving.State). record { held = without id_of stream r.held; live = map (serving.answered w k) r.live; due = r.due; count = r.count }) leads.keeps.requests
+        ∙ ap (λ (hs : List Held). record { held = hs; live = lines_heard (upstream_of event) w s.requests.live; due = s.requests.due; count = s.requests.count }) held_one
+        ∙ ap (λ n. record { held = without id_of stream s.requests.held; live = lines_heard n w s.requests.live; due = s.requests.due; count = s.requests.count }) of
+        ∙ ap (λ (r : serving.State). record { held = without id_of stream r.held; live = lines_heard k w r.live; due = r.due; count = r.count }) leads.keeps.requests
 
     -- ---- the connection is open still
 
-    module _ (part : w ≡ false) (answer : Answer) where
+    module _ (part : w ≡ Partly) (answer : Answer) where
       -- what is kept then: of its answer nothing more is asked
       abbrev pub open_view : View
       open_view = replied_to stream (answered_with k answer kept.offers kept)
 
-      lives_open : map (serving.answered w k) (lives kept.upstreams.live) ≡ lives open_view.upstreams.live
+      lives_open : lines_heard k w (lives kept.upstreams.live) ≡ lives open_view.upstreams.live
       lives_open =
-          ap (λ b. map (serving.answered b k) (lives kept.upstreams.live)) part
-          ∙ subst (λ (ls : List Live). map (serving.answered false k) ls ≡ ls) (coming.lives_are setup kept rest run s leads k c found) (unanswered (told_in (told_by s)) k s.requests.live (coming.none_done_yet setup kept rest run s leads k c found))
+          ap (λ (h : Heard). lines_heard k h (lives kept.upstreams.live)) part
+          ∙ sym (lives_heard k Partly kept.upstreams.live)
+          ∙ ap lives (coming.partly_same setup kept rest run s leads k c found working)
           ∙ sym (lives_same (answer_at k answer) (λ y. refl) kept.upstreams.live)
 
       heard_open : AreHeard setup one_run open_view.upstreams.live
-      heard_open known same knows j now is on calm =
-          let from = found_from k answer kept.upstreams.live j now is in
-          let y = from.before in
-          let number : y.live.k ≡ j = found_key number_of j kept.upstreams.live y from.there in
-          let live_is : y.live ≡ now.live = ap (λ (z : Connection). z.live) from.is in
-          elim (eqb_tells j k) [
-            | inl here ↦ absurd (
-                let own : Some y ≡ Some c = sym from.there ∙ ap (λ n. find number_of n kept.upstreams.live) here.1 ∙ found in
-                let this : y ≡ c = cc in
-                let no : ◌≡◌ {A = Option Cause} (Some BadAnswer) None =
-                sym (caused_one known same knows) ∙ ap (λ n. (course known n (Happened event ∷ tape_of run)).cause) (ap (λ (z : Connection). z.live.stream) (sym this) ∙ ap (λ (l : Live). l.stream) live_is) ∙ calm in
-                let clash : ◌≡◌ {A = Option Cause} (Some BadAnswer) None = no in cc
-                )
-            | inr off ↦ (
-                let other : (y.live.k == k) ≡ false = ap (λ n. n == k) number ∙ off.0 in
-                subst (λ (a : Answer). IsHeard known (Happened event ∷ tape_of run) j a) (sym (ap (λ b. if b then answer else y.answer) other) ∙ ap (λ (z : Connection). z.answer) from.is)
-                (coming.heard_beside setup kept rest run s leads k c found event of known same knows.0 j y off.1 from.there (ap (λ (l : Live). l.whole) live_is ∙ on)
-                (ap (λ (l : Live). (course known l.stream (Happened event ∷ tape_of run)).cause) live_is ∙ calm))
-                )
-          ]
+      heard_open = record {
+        so = λ known same knows j now is on calm.
+            let from = found_from (answer_at k answer) (λ y. refl) kept.upstreams.live j now is in
+            let y = from.before in
+            let number : y.live.k ≡ j = found_key number_of j kept.upstreams.live y from.there in
+            let live_is : y.live ≡ now.live = ap (λ (z : Connection). z.live) from.is in
+            elim (eqb_tells j k) [
+              | inl here ↦ absurd (
+                  let no : ◌≡◌ {A = Option Cause} (Some BadAnswer) None =
+                  sym (caused_one known same knows) ∙ ap (λ n. (course known n (Happened event ∷ tape_of run)).cause) (ap (λ (z : Connection). z.live.stream) (sym (own_one j y from.there here.1)) ∙ ap (λ (l : Line). l.stream) live_is) ∙ calm in
+                  let clash : ◌≡◌ {A = Option Cause} (Some BadAnswer) None = no in cc
+                  )
+              | inr off ↦ (
+                  let other : (y.live.k == k) ≡ false = ap (λ n. n == k) number ∙ off.0 in
+                  subst (λ (a : Answer). IsHeard known (Happened event ∷ tape_of run) j a) (sym (ap (λ b. if b then answer else y.answer) other) ∙ ap (λ (z : Connection). z.answer) from.is)
+                  (coming.others_heard setup kept rest run s leads k c found working event of known same knows.0 j y off.1 from.there (ap (λ (l : Line). l.answer) live_is ∙ on)
+                  (ap (λ (l : Line). (course known l.stream (Happened event ∷ tape_of run)).cause) live_is ∙ calm))
+                  )
+            ];
+        none_idle = λ j now is idle.
+            let from = found_from (answer_at k answer) (λ y. refl) kept.upstreams.live j now is in
+            let y = from.before in
+            let number : y.live.k ≡ j = found_key number_of j kept.upstreams.live y from.there in
+            let was : y.live.answer ≡ Idle = ap (λ (z : Connection). z.live.answer) from.is ∙ idle in
+            elim (eqb_tells j k) [
+              | inl here ↦ absurd (
+                  let no : true ≡ false = sym (ap is_idle was) ∙ ap (λ (z : Connection). is_idle z.live.answer) (own_one j y from.there here.1) ∙ working in
+                  let clash : true ≡ false = no in cc
+                  )
+              | inr off ↦ (
+                  let other : (y.live.k == k) ≡ false = ap (λ n. n == k) number ∙ off.0 in
+                  ap octets_of (sym (sym (ap (λ b. if b then answer else y.answer) other) ∙ ap (λ (z : Connection). z.answer) from.is)) ∙ leads.heard.none_idle j y from.there was
+                  )
+            ];
+      }
+        where
+          own_one : (j : ℕ) (y : Connection) → find number_of j kept.upstreams.live ≡ Some y → j ≡ k → y ≡ c
+          own_one j y there here = let own : ◌≡◌ {A = Option Connection} (Some y) (Some c) = sym there ∙ ap (λ n. find number_of n kept.upstreams.live) here ∙ found in let this : y ≡ c = cc in this
 
       -- The answer fails, and its connection is open still.
       pub failure_open : (outputs : List Output) → Course setup run s outputs (Happened event) open_view pending outputs
@@ -315,13 +316,13 @@ module _ (setup : Setup) (kept : View) (rest : IsAtRest kept) (run : List Move) 
               book = book_one ∙ ap (λ (os : List Opened). book_of (record { given = os; untaken = kept.untaken }) new.inbound) (sym (ap (λ (b : Book). b.given) book_one));
               owed = queue_one;
               offers = offers_one;
-              requests = requests_one ∙ ap (λ (ls : List Live). record { held = without id_of stream kept.upstreams.held; live = ls; due = Nothing; count = kept.upstreams.count }) lives_open;
+              requests = requests_one ∙ ap (λ (ls : List Line). record { held = without id_of stream kept.upstreams.held; live = ls; due = Nothing; count = kept.upstreams.count }) lives_open;
               decoding = leads.keeps.decoding;
               encoding = leads.keeps.encoding;
               read = leads.keeps.read;
               credited = credited_one;
               counted = λ j now is.
-                  let from = found_from k answer kept.upstreams.live j now is in
+                  let from = found_from (answer_at k answer) (λ y. refl) kept.upstreams.live j now is in
                   let was = counted_one j from.before from.there in (was.0 ∙ ap (λ (z : Connection). z.out) from.is, was.1 ∙ ap (λ (z : Connection). z.took) from.is);
             };
             marked = marked_one;
@@ -345,22 +346,28 @@ module _ (setup : Setup) (kept : View) (rest : IsAtRest kept) (run : List Move) 
     desk_two : desk_after setup one.desk (conduct_of second) ≡ record { book = one.desk.book; queue = one.desk.queue }
     desk_two = did_desk setup false one.desk (Close k) one.desk.book [] (closes_lead setup one.desk.book k (rows_kept setup one_run one stands_one))
 
-    live_one : live_of k one.requests.live ≡ Some (serving.answered w k c.live)
-    live_one =
-        ap (λ (r : serving.State). live_of k r.live) requests_one
-        ∙ find_map k_of (serving.answered w k) (λ l. refl) k (lives kept.upstreams.live)
-        ∙ ap (option_map (serving.answered w k)) (found_live k kept.upstreams.live c found)
+    -- its line then
+    abbrev line_then : Line
+    line_then = with_answer k (answer_by (idle_beside k (lives kept.upstreams.live)) w) c.live
 
-    done_one : is_done (told_in (told_by one)) (serving.answered w k c.live) ≡ true
+    line_one : line_of k one.requests.live ≡ Some line_then
+    line_one =
+        ap (λ (r : serving.State). line_of k r.live) requests_one
+        ∙ find_map k_of (with_answer k (answer_by (idle_beside k (lives kept.upstreams.live)) w)) (λ l. refl) k (lives kept.upstreams.live)
+        ∙ ap (option_map (with_answer k (answer_by (idle_beside k (lives kept.upstreams.live)) w))) (found_live k kept.upstreams.live c found)
+
+    done_one : is_done (told_in (told_by one)) line_then ≡ true
     done_one =
-        ap (λ (d : Desk). (serving.answered w k c.live).whole || not ((told_in (summary_in d.book)).served stream)) desk_one
-        ∙ or_right (serving.answered w k c.live).whole (not (told_one.served stream)) (ap not not_served)
+        ap (λ (d : Desk). is_done_by line_then.answer ((told_in (summary_in d.book)).served stream)) desk_one
+        ∙ ap (λ b. is_done_by line_then.answer b) not_served
+        ∙ ap (λ b. is_done_by (if b then answer_by (idle_beside k (lives kept.upstreams.live)) w else c.live.answer) false) (eq-eqb c.live.k k (found_key number_of k kept.upstreams.live c found))
+        ∙ failed_done (idle_beside k (lives kept.upstreams.live)) w never
 
     may_two : resets_for kept stream ≡ [] → MayGoOn setup one (Does second)
     may_two unreset = (
       ap (λ (d : Desk). d.book.ends) desk_two ∙ stands_one.goes_on,
       may_act setup (told_behind setup one second) one (Close k) (ap (λ (b : Book). b.closed) book_one)
-          (record { nothing = queue_one ∙ unreset; may = record { nothing = ap (λ (r : serving.State). r.due) requests_one; live = serving.answered w k c.live; found = live_one; why = inl done_one } }),
+          (record { nothing = queue_one ∙ unreset; may = record { nothing = ap (λ (r : serving.State). r.due) requests_one; line = line_then; found = line_one; why = inl done_one } }),
     )
 
     abbrev closed_view : View
@@ -369,7 +376,7 @@ module _ (setup : Setup) (kept : View) (rest : IsAtRest kept) (run : List Move) 
     requests_two : two.requests ≡ upstreams.with_due closed_view.upstreams Nothing
     requests_two =
         ap (λ (r : serving.State). serving.after setup (told_in (told_behind setup one second)) r (serving.Move.Acts (Close k))) requests_one
-        ∙ ap (λ (ls : List Live). record { held = map (drop_from k) (without id_of stream kept.upstreams.held); live = ls; due = Nothing; count = kept.upstreams.count }) (without_answered w k (lives kept.upstreams.live) ∙ sym (lives_closed k kept.upstreams.live))
+        ∙ ap (λ (ls : List Line). record { held = map (drop_from k) (without id_of stream kept.upstreams.held); live = ls; due = Nothing; count = kept.upstreams.count }) (without_heard k w kept.upstreams.live ∙ sym (lives_closed k kept.upstreams.live))
 
     book_two : two.desk.book ≡ book_of (record { given = two.desk.book.given; untaken = kept.untaken }) new.inbound
     book_two =
@@ -377,18 +384,17 @@ module _ (setup : Setup) (kept : View) (rest : IsAtRest kept) (run : List Move) 
         ∙ ap (λ (os : List Opened). book_of (record { given = os; untaken = kept.untaken }) new.inbound) (sym (ap (λ (d : Desk). d.book.given) desk_two ∙ ap (λ (b : Book). b.given) book_one))
 
     heard_two : AreHeard setup (Does second ∷ one_run) (without number_of k kept.upstreams.live)
-    heard_two known same knows j x is on calm =
-        let was = heard_one known same knows.0 j x is on (calm_before known x.live.stream (Did (Close k)) (Happened event ∷ tape_of run) calm) in
-        record {
-          parts = was.parts;
-          stands = was.stands;
-          short = was.short;
-          few_named = was.few_named;
-          goes_on = was.goes_on;
-          waits = was.waits;
-          asked = was.asked ∙ head_stays known (given j (exchanges (tape_of run))) (Happened event ∷ tape_of run) (Did (Close k)) (begun_one known same knows.0.0 j x (found_before k j kept.upstreams.live x is));
-          set_up = was.set_up;
-        }
+    heard_two = record {
+      so = λ known same knows j x is on calm.
+          let was = heard_one.so known same knows.0 j x is on (calm_before known x.live.stream (Did (Close k)) (Happened event ∷ tape_of run) calm) in
+          heard_by_entry known (Happened event ∷ tape_of run) (Did (Close k)) j x.answer refl refl (begun_one known same knows.0.0 j x (found_before k j kept.upstreams.live x is)) was;
+      none_idle = heard_one.none_idle;
+    }
+      where
+        begun_one : (known : Known) → known.setup ≡ setup → AreKnown known (conducts run) → (j : ℕ) (x : Connection) → find number_of j kept.upstreams.live ≡ Some x → items known (given j (exchanges (tape_of run))) (Happened event ∷ tape_of run) ≡ [] → ⊥
+        begun_one known same knows j x there none =
+            open_begun setup run s leads.stands leads.so kept.upstreams.live (coming.lives_are setup kept rest run s leads k c found working) known same knows j x there
+            (sym (items_behind_event known (tape_of run) event (given j (exchanges (tape_of run)))) ∙ none)
 
     so_two : AreSo setup (Does second ∷ one_run)
     so_two = so_stays setup one_run second tt so_one
@@ -415,7 +421,9 @@ module _ (setup : Setup) (kept : View) (rest : IsAtRest kept) (run : List Move) 
             credited = credited_one;
             counted = λ j x is. counted_one j x (found_before k j kept.upstreams.live x is);
           };
-          marked = subst (AreMarked setup.passing kept.marks) (sym (rooms_next setup one_run one stands_one so_one second (may_two unreset) so_two)) marked_one;
+          marked =
+              subst (λ (os : List Opened). AreMarked setup.passing (λ j. given j os) kept.marks (rooms_in (told_by two) two)) (sym (ap (λ (d : Desk). d.book.given) desk_two))
+              (subst (AreMarked setup.passing (newest_in one) kept.marks) (sym (rooms_next setup one_run one stands_one so_one second (may_two unreset) so_two)) marked_one);
           in_effect = tt;
         };
         puts = refl;
@@ -443,7 +451,7 @@ module _ (setup : Setup) (kept : View) (rest : IsAtRest kept) (run : List Move) 
         ∙ ap (λ (d : Desk). serving.after setup (told_in (summary_in d.book)) s.requests (serving.Move.Fails k)) desk_one
         ∙ ap (λ (hs : List Held). record { held = hs; live = without k_of k s.requests.live; due = s.requests.due; count = s.requests.count }) held_gone
         ∙ ap (λ (r : serving.State). record { held = without id_of stream (map (drop_from k) r.held); live = without k_of k r.live; due = r.due; count = r.count }) leads.keeps.requests
-        ∙ ap (λ (ls : List Live). record { held = without id_of stream (map (drop_from k) kept.upstreams.held); live = ls; due = Nothing; count = kept.upstreams.count }) (sym (lives_closed k kept.upstreams.live))
+        ∙ ap (λ (ls : List Line). record { held = without id_of stream (map (drop_from k) kept.upstreams.held); live = ls; due = Nothing; count = kept.upstreams.count }) (sym (lives_closed k kept.upstreams.live))
 
     -- The answer fails with its connection.
     pub failure_gone : (outputs : List Output) → Course setup run s outputs (Happened event) gone_view pending outputs

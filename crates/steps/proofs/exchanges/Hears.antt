@@ -1,13 +1,11 @@
 -- An upstream's answer goes on, or is whole: what comes of it is on offer. This performs.
-use Rattle.std.proofs.Common.{◌≡◌, ℕ, Bool, true, false, not, ◌==◌, List, [], ◌∷◌, map, Option, Some, None, refl, sym, ◌∙◌, ap, subst, inl, inr, if◌then◌else◌}
-use Rattle.std.specs.Prelude.{option_map}
-use Rattle.std.specs.List.{list_any}
-use Rattle.std.proofs.lemmas.Bool.{or_parts}
+use Rattle.std.proofs.Common.{◌≡◌, ℕ, Bool, true, false, ◌==◌, nat_lt, List, [], ◌∷◌, map, Some, refl, sym, ◌∙◌, ap, subst, inl, inr, if◌then◌else◌}
 use Rattle.std.proofs.lemmas.Bool.Decides.{eqb_tells}
+use Rattle.model.specs.Idle.{most_idle}
 use Rattle.model.specs.Logs.{Event, Output}
 use Rattle.model.specs.Setup.{Setup}
 use Rattle.model.specs.Tapes.Entry.{Happened}
-use Rattle.model.specs.Openings.{Opened}
+use Rattle.model.specs.Openings.{Opened, given}
 use Rattle.model.specs.Known.{Known}
 use Rattle.model.specs.Courses.{course, upstream_of}
 use Rattle.model.specs.Deliveries.{Delivery}
@@ -20,17 +18,22 @@ use Rattle.receiving.specs.Policy.{Gates, may_come}
 use Rattle.receiving.specs.State as receiving
 use Rattle.serving.specs.Told.{Told}
 use Rattle.serving.specs.State as serving
-use Rattle.serving.specs.State.{Held, Live, answered, find, id_of, without}
+use Rattle.serving.specs.Lines.{Heard, Line, find, lines_heard, answer_by, idle_beside}
+use Rattle.serving.specs.Lines as lines
+use Rattle.serving.specs.Lines.Answer.{Pending, Idle}
+use Rattle.serving.specs.Lines.Heard.{Partly, Keepable, Finished}
+use Rattle.serving.specs.State.{Held}
 use Rattle.serving.specs.State.Due.{Nothing}
-use Rattle.serving.specs.Rule.{is_done, IsAnswer}
-use Rattle.serving.proofs.Lists.{found_key, find_map}
+use Rattle.serving.specs.Rule.{IsAnswer}
+use Rattle.serving.proofs.Lists.{found_key}
 use Rattle.judgement.specs.Inbound.{book_of}
 use Rattle.judgement.specs.Sending.{is_of_upstream}
 use Rattle.judgement.proofs.SendingEvents.{heard_lead, happened_desk}
 use Rattle.answers.specs.Waiting.{Answer}
+use Rattle.answers.specs.HeldInside.{octets_of}
 use Rattle.offers.specs.Changes.{with_box, refilled}
 use Rattle.upstreams.specs.Kept as upstreams
-use Rattle.upstreams.specs.Connections.{Connection, number_of, lives, answer_at, whole_at}
+use Rattle.upstreams.specs.Connections.{Connection, number_of, lives, answer_at, marked_at, heard_at}
 use Rattle.policy.specs.Moves.{Deed, Move, conduct_of, told_in}
 use Rattle.policy.specs.Moves.Deed.{Hears}
 use Rattle.policy.specs.Moves.Move.{Does}
@@ -40,14 +43,14 @@ use Rattle.policy.specs.Answered.{IsAnswered}
 use Rattle.policy.specs.Steps.{told_by, told_behind, next, MayGoOn}
 use Rattle.policy.proofs.Coming.{may_hear}
 use Rattle.policy.proofs.Stepping.{one_more}
-use Rattle.relay.specs.View.{View, square, Keeps, AreMarked, AreSo, Leads, AreHeard}
+use Rattle.relay.specs.View.{View, square, newest_in, Keeps, AreMarked, AreSo, Leads, AreHeard}
 use Rattle.relay.specs.Rest.{IsAtRest}
 use Rattle.relay.specs.Hearing.{IsHeard}
 use Rattle.relay.specs.Bringing.{Course}
-use Rattle.relay.proofs.Kept.{held_behind}
-use Rattle.relay.proofs.Lives.{lives_whole, lives_same}
+use Rattle.relay.proofs.Kept.{AreServed, served_by, kept_served}
+use Rattle.relay.proofs.Lives.{lives_heard, lives_same}
 use Rattle.relay.proofs.Marking.{rooms_next, marked_event}
-use Rattle.relay.proofs.Staying.{rows_kept, all_held_served}
+use Rattle.relay.proofs.Staying.{found_from, rows_kept, all_held_served}
 use Rattle.steps.proofs.exchanges.Coming as coming
 
 -- ---- what is on offer for a stream
@@ -61,35 +64,40 @@ change_as id f g (k ∷ ks) x found same = by (k.id == id) found (change_as id f
     by true is rest = let this : x ≡ k = cc in ap (λ (y : Kept). y ∷ ks) (subst (λ (y : Kept). f y ≡ g y) this same)
     by false is rest = ap (λ (ys : List Kept). k ∷ ys) (rest is same)
 
--- ---- whether responses are whole
+-- ---- how far responses are
 
--- of connections none of which is done with, one stays as it was where it isn't whole yet
-pub unanswered : (told : Told) (k : ℕ) (ls : List Live) → list_any (is_done told) ls ≡ false → map (answered false k) ls ≡ ls
-unanswered told k [] none = refl
-unanswered told k (l ∷ ls) none =
-    let parts = or_parts (is_done told l) (list_any (is_done told) ls) none in
-    ap (λ (x : Live). x ∷ map (answered false k) ls) (by (l.k == k) (or_parts l.whole (not (told.served l.stream)) parts.0).0) ∙ ap (λ (xs : List Live). l ∷ xs) (unanswered told k ls parts.1)
+-- only where no whole response was heard it isn't whole
+pending_partly : (others : ℕ) (heard : Heard) → answer_by others heard ≡ Pending → heard ≡ Partly
+pending_partly others Partly is = refl
+pending_partly others Keepable is = by (nat_lt others most_idle) is
   where
-    by : (b : Bool) → l.whole ≡ false → record { k = l.k; stream = l.stream; whole = if b then false else l.whole } ≡ l
-    by true is = ap (λ w. let x : Live = record { k = l.k; stream = l.stream; whole = w } in x) (sym is)
-    by false is = refl
+    by : (b : Bool) → (if b then Idle else lines.Answer.Done) ≡ Pending → Keepable ≡ Partly
+    by true on = cc
+    by false off = cc
+pending_partly others Finished is = cc
 
--- the connections with this answer of one, whose response is whole or isn't
-abbrev pub heard_lives : Bool → ℕ → Answer → List Connection → List Connection
-heard_lives true k answer cs = map (whole_at k) (map (answer_at k answer) cs)
-heard_lives false k answer cs = map (answer_at k answer) cs
+-- and only where one was the connection is idle
+idle_whole : (others : ℕ) (heard : Heard) → answer_by others heard ≡ Idle → heard ≡ Partly → ⊥
+idle_whole others Partly is e = cc
+idle_whole others Keepable is e = cc
+idle_whole others Finished is e = cc
 
-module _ (setup : Setup) (kept : View) (rest : IsAtRest kept) (run : List Move) (s : State) (leads : Leads setup run kept square s) (k : ℕ) (c : Connection) (found : find number_of k kept.upstreams.live ≡ Some c)
+module _ (setup : Setup) (kept : View) (rest : IsAtRest kept) (run : List Move) (s : State) (leads : Leads setup run kept square s) (k : ℕ) (c : Connection) (found : find number_of k kept.upstreams.live ≡ Some c) (working : lines.is_idle c.live.answer ≡ false)
     (event : Event) (of : upstream_of event ≡ k) (upstream : is_of_upstream event ≡ true) (is_answer : IsAnswer event)
     (quiet : (x : receiving.State) → receiving.with_event x event ≡ record x { settled = false }) (comes : (gates : Gates) (rooms : receiving.State) → gates.is_up k ≡ true → may_come gates rooms event ≡ true) where
-  module _ (news : Delivery) (whole : Bool) (answer : Answer) (box : Outbox) (x : Kept) (kept_there : offering.find c.live.stream kept.offers.kept ≡ Some x) (grows : box ≡ grown x.box news)
-      (so : (known : Known) → known.setup ≡ setup → AreKnown known (conducts run) → IsAnswered known (tape_of run) (Hears event c.live.stream news whole))
-      (stands_for : whole ≡ false → (known : Known) → known.setup ≡ setup → AreKnown known (conducts run) → IsHeard known (Happened event ∷ tape_of run) k answer) where
+  module _ (news : Delivery) (heard : Heard) (answer : Answer) (box : Outbox) (x : Kept) (kept_there : offering.find c.live.stream kept.offers.kept ≡ Some x) (grows : box ≡ grown x.box news)
+      (so : (known : Known) → known.setup ≡ setup → AreKnown known (conducts run) → IsAnswered known (tape_of run) (Hears event c.live.stream news heard))
+      (stands_for : heard ≡ Partly → (known : Known) → known.setup ≡ setup → AreKnown known (conducts run) → IsHeard known (Happened event ∷ tape_of run) k answer)
+      (empty : (heard ≡ Partly → ⊥) → octets_of answer ≡ 0) where
+    -- the connections with this answer of the one
+    abbrev pub answered_lives : List Connection
+    answered_lives = map (answer_at k answer) kept.upstreams.live
+
     abbrev pub heard_view : View
-    heard_view = record kept { offers = refilled c.live.stream box kept.offers; upstreams = record kept.upstreams { live = heard_lives whole k answer kept.upstreams.live } }
+    heard_view = record kept { offers = refilled c.live.stream box kept.offers; upstreams = record kept.upstreams { live = heard_at k heard answered_lives } }
 
     abbrev deed : Deed
-    deed = Hears event c.live.stream news whole
+    deed = Hears event c.live.stream news heard
 
     abbrev book : Book
     book = s.desk.book
@@ -103,10 +111,10 @@ module _ (setup : Setup) (kept : View) (rest : IsAtRest kept) (run : List Move) 
     may : MayGoOn setup s (Does deed)
     may = (
       ap (λ (d : Desk). d.book.ends) desk,
-      may_hear setup (told_behind setup s deed) s (coming.ready setup kept rest run s leads k c found) event c.live.stream news whole (record {
-        answer = coming.may_answer setup kept rest run s leads k c found event of comes;
+      may_hear setup (told_behind setup s deed) s (coming.ready setup kept rest run s leads k c found working) event c.live.stream news heard (record {
+        answer = coming.may_answer setup kept rest run s leads k c found working event of comes;
         of_upstream = is_answer;
-        calm = ap (λ (d : Desk). ((summary_in d.book).stream c.live.stream).brief.cause) desk ∙ (coming.event_of setup kept rest run s leads k c found event of).no_cause;
+        calm = ap (λ (d : Desk). ((summary_in d.book).stream c.live.stream).brief.cause) desk ∙ (coming.event_of setup kept rest run s leads k c found working event of).no_cause;
       }),
     )
 
@@ -114,29 +122,21 @@ module _ (setup : Setup) (kept : View) (rest : IsAtRest kept) (run : List Move) 
     abbrev told_then : Told
     told_then = told_in (summary_in (record book { ends = false }))
 
-    held_then : serving.kept told_then s.requests.held ≡ s.requests.held
-    held_then =
-        held_behind (told_in (told_by s)) told_then c.live.stream (λ other apart. refl) s.requests.held (all_held_served setup run s leads.stands leads.so)
-        ∙ ap (λ b. if b then s.requests.held else without id_of c.live.stream s.requests.held) (coming.served setup kept rest run s leads k c found)
+    served_then : AreServed told_then kept.upstreams.held
+    served_then =
+        subst (AreServed told_then) (ap (λ (r : serving.State). r.held) leads.keeps.requests)
+        (served_by (told_in (told_by s)) told_then (λ id. refl) s.requests.held (all_held_served setup run s leads.stands leads.so))
 
-    lives_then : map (answered whole k) s.requests.live ≡ lives (heard_lives whole k answer kept.upstreams.live)
-    lives_then = by whole
-      where
-        by : (w : Bool) → map (answered w k) s.requests.live ≡ lives (heard_lives w k answer kept.upstreams.live)
-        by true =
-            ap (λ (ls : List Live). map (answered true k) ls) (coming.lives_are setup kept rest run s leads k c found ∙ sym (lives_same (answer_at k answer) (λ y. refl) kept.upstreams.live))
-            ∙ sym (lives_whole k (map (answer_at k answer) kept.upstreams.live))
-        by false =
-            unanswered (told_in (told_by s)) k s.requests.live (coming.none_done_yet setup kept rest run s leads k c found)
-            ∙ coming.lives_are setup kept rest run s leads k c found ∙ sym (lives_same (answer_at k answer) (λ y. refl) kept.upstreams.live)
+    lives_then : lines_heard k heard (lives kept.upstreams.live) ≡ lives (heard_at k heard answered_lives)
+    lives_then = ap (lines_heard k heard) (sym (lives_same (answer_at k answer) (λ y. refl) kept.upstreams.live)) ∙ sym (lives_heard k heard answered_lives)
 
     requests_then : then_state.requests ≡ upstreams.with_due heard_view.upstreams Nothing
     requests_then =
-        ap (λ (d : Desk). serving.after setup (told_in (summary_in d.book)) s.requests (serving.Move.Hears event whole)) desk
-        ∙ ap (λ (hs : List Held). record { held = hs; live = map (answered whole (upstream_of event)) s.requests.live; due = s.requests.due; count = s.requests.count }) held_then
-        ∙ ap (λ n. record { held = s.requests.held; live = map (answered whole n) s.requests.live; due = s.requests.due; count = s.requests.count }) of
-        ∙ ap (λ (ls : List Live). record { held = s.requests.held; live = ls; due = s.requests.due; count = s.requests.count }) lives_then
-        ∙ ap (λ (r : serving.State). record r { live = lives (heard_lives whole k answer kept.upstreams.live) }) leads.keeps.requests
+        ap (λ (d : Desk). serving.after setup (told_in (summary_in d.book)) s.requests (serving.Move.Hears event heard)) desk
+        ∙ ap (λ (r : serving.State). serving.after setup told_then r (serving.Move.Hears event heard)) leads.keeps.requests
+        ∙ ap (λ (hs : List Held). record { held = hs; live = lines_heard (upstream_of event) heard (lives kept.upstreams.live); due = Nothing; count = kept.upstreams.count }) (kept_served told_then kept.upstreams.held served_then)
+        ∙ ap (λ n. record { held = kept.upstreams.held; live = lines_heard n heard (lives kept.upstreams.live); due = Nothing; count = kept.upstreams.count }) of
+        ∙ ap (λ (ls : List Line). record { held = kept.upstreams.held; live = ls; due = Nothing; count = kept.upstreams.count }) lives_then
 
     offers_then : then_state.offers ≡ heard_view.offers
     offers_then =
@@ -146,80 +146,64 @@ module _ (setup : Setup) (kept : View) (rest : IsAtRest kept) (run : List Move) 
 
     -- ---- connections
 
+    -- how far the response is
+    abbrev progress : lines.Answer
+    progress = answer_by (idle_beside k (lives answered_lives)) heard
+
     -- what becomes of one
-    abbrev changed : Bool → Connection → Connection
-    changed true y = whole_at k (answer_at k answer y)
-    changed false y = answer_at k answer y
+    abbrev changed : Connection → Connection
+    changed y = marked_at k progress (answer_at k answer y)
 
     -- one that is found now was there before
-    record IsFrom (w : Bool) (j : ℕ) (now : Connection) : Type 0 where
+    record WasSo (j : ℕ) (now : Connection) : Type 0 where
       pub before : Connection
       pub there : find number_of j kept.upstreams.live ≡ Some before
-      pub is : changed w before ≡ now
+      pub is : changed before ≡ now
 
-    found_from : (w : Bool) (j : ℕ) (now : Connection) → find number_of j (heard_lives w k answer kept.upstreams.live) ≡ Some now → IsFrom w j now
-    found_from false j now is = by (find number_of j kept.upstreams.live) refl (sym (find_map number_of (answer_at k answer) (λ y. refl) j kept.upstreams.live) ∙ is)
-      where
-        by : (o : Option Connection) → find number_of j kept.upstreams.live ≡ o → option_map (answer_at k answer) o ≡ Some now → IsFrom false j now
-        by None there none = let clash : ◌≡◌ {A = Option Connection} None (Some now) = none in cc
-        by (Some y) there some = record { before = y; there = there; is = let same : answer_at k answer y ≡ now = cc in same }
-    found_from true j now is =
-        by (find number_of j kept.upstreams.live) refl
-        (ap (option_map (whole_at k)) (sym (find_map number_of (answer_at k answer) (λ y. refl) j kept.upstreams.live)) ∙ sym (find_map number_of (whole_at k) (λ y. refl) j (map (answer_at k answer) kept.upstreams.live)) ∙ is)
-      where
-        by : (o : Option Connection) → find number_of j kept.upstreams.live ≡ o → option_map (whole_at k) (option_map (answer_at k answer) o) ≡ Some now → IsFrom true j now
-        by None there none = let clash : ◌≡◌ {A = Option Connection} None (Some now) = none in cc
-        by (Some y) there some = record { before = y; there = there; is = let same : whole_at k (answer_at k answer y) ≡ now = cc in same }
-
-    -- the counts are the same, and so is whether others' responses are whole, and their answers
-    out_same : (w : Bool) (y : Connection) → (changed w y).out ≡ y.out
-    out_same true y = refl
-    out_same false y = refl
-
-    took_same : (w : Bool) (y : Connection) → (changed w y).took ≡ y.took
-    took_same true y = refl
-    took_same false y = refl
-
-    answer_same : (w : Bool) (y : Connection) → (y.live.k == k) ≡ false → (changed w y).answer ≡ y.answer
-    answer_same true y other = ap (λ b. if b then answer else y.answer) other
-    answer_same false y other = ap (λ b. if b then answer else y.answer) other
-
-    whole_same : (w : Bool) (y : Connection) → (y.live.k == k) ≡ false → (changed w y).live.whole ≡ y.live.whole
-    whole_same true y other = ap (λ b. if b then true else y.live.whole) other
-    whole_same false y other = refl
-
-    stream_same : (w : Bool) (y : Connection) → (changed w y).live.stream ≡ y.live.stream
-    stream_same true y = refl
-    stream_same false y = refl
-
-    answer_new : (w : Bool) (y : Connection) → (y.live.k == k) ≡ true → (changed w y).answer ≡ answer
-    answer_new true y own = ap (λ b. if b then answer else y.answer) own
-    answer_new false y own = ap (λ b. if b then answer else y.answer) own
-
-    now_whole : (w : Bool) (y : Connection) → (y.live.k == k) ≡ true → (changed w y).live.whole ≡ false → w ≡ false
-    now_whole true y own on = let clash : true ≡ false = sym (ap (λ b. if b then true else y.live.whole) own) ∙ on in cc
-    now_whole false y own on = refl
+    was_so : (j : ℕ) (now : Connection) → find number_of j (heard_at k heard answered_lives) ≡ Some now → WasSo j now
+    was_so j now is =
+        let later = found_from (marked_at k progress) (λ y. refl) answered_lives j now is in
+        let first = found_from (answer_at k answer) (λ y. refl) kept.upstreams.live j later.before later.there in
+        record { before = first.before; there = first.there; is = ap (marked_at k progress) first.is ∙ later.is }
 
     heard_then : AreHeard setup (Does deed ∷ run) heard_view.upstreams.live
-    heard_then known same knows j now is on calm =
-        let from = found_from whole j now is in
-        let y = from.before in
-        let on_it : (changed whole y).live.whole ≡ false = ap (λ (z : Connection). z.live.whole) from.is ∙ on in
-        let number : y.live.k ≡ j = found_key number_of j kept.upstreams.live y from.there in
-        elim (eqb_tells j k) [
-          | inl here ↦ (
-              let own : (y.live.k == k) ≡ true = ap (λ n. n == k) number ∙ here.0 in
-              subst (λ n. IsHeard known (Happened event ∷ tape_of run) n now.answer) (sym here.1)
-              (subst (λ (a : Answer). IsHeard known (Happened event ∷ tape_of run) k a) (sym (answer_new whole y own) ∙ ap (λ (z : Connection). z.answer) from.is)
-              (stands_for (now_whole whole y own on_it) known same knows.0))
-              )
-          | inr off ↦ (
-              let other : (y.live.k == k) ≡ false = ap (λ n. n == k) number ∙ off.0 in
-              subst (λ (a : Answer). IsHeard known (Happened event ∷ tape_of run) j a) (sym (answer_same whole y other) ∙ ap (λ (z : Connection). z.answer) from.is)
-              (coming.heard_beside setup kept rest run s leads k c found event of known same knows.0 j y off.1 from.there (sym (whole_same whole y other) ∙ on_it)
-              (ap (λ n. (course known n (Happened event ∷ tape_of run)).cause) (sym (stream_same whole y) ∙ ap (λ (z : Connection). z.live.stream) from.is) ∙ calm))
-              )
-        ]
+    heard_then = record {
+      so = λ known same knows j now is on calm.
+          let from = was_so j now is in
+          let y = from.before in
+          let number : y.live.k ≡ j = found_key number_of j kept.upstreams.live y from.there in
+          elim (eqb_tells j k) [
+            | inl here ↦ (
+                let own : (y.live.k == k) ≡ true = ap (λ n. n == k) number ∙ here.0 in
+                subst (λ n. IsHeard known (Happened event ∷ tape_of run) n now.answer) (sym here.1)
+                (subst (λ (a : Answer). IsHeard known (Happened event ∷ tape_of run) k a) (sym (ap (λ b. if b then answer else y.answer) own) ∙ ap (λ (z : Connection). z.answer) from.is)
+                (stands_for (pending_partly (idle_beside k (lives answered_lives)) heard (sym (ap (λ b. if b then progress else y.live.answer) own) ∙ ap (λ (z : Connection). z.live.answer) from.is ∙ on)) known same knows.0))
+                )
+            | inr off ↦ (
+                let other : (y.live.k == k) ≡ false = ap (λ n. n == k) number ∙ off.0 in
+                subst (λ (a : Answer). IsHeard known (Happened event ∷ tape_of run) j a) (sym (ap (λ b. if b then answer else y.answer) other) ∙ ap (λ (z : Connection). z.answer) from.is)
+                (coming.others_heard setup kept rest run s leads k c found working event of known same knows.0 j y off.1 from.there
+                (sym (ap (λ b. if b then progress else y.live.answer) other) ∙ ap (λ (z : Connection). z.live.answer) from.is ∙ on)
+                (ap (λ n. (course known n (Happened event ∷ tape_of run)).cause) (ap (λ (z : Connection). z.live.stream) from.is) ∙ calm))
+                )
+          ];
+      none_idle = λ j now is idle.
+          let from = was_so j now is in
+          let y = from.before in
+          let number : y.live.k ≡ j = found_key number_of j kept.upstreams.live y from.there in
+          elim (eqb_tells j k) [
+            | inl here ↦ (
+                let own : (y.live.k == k) ≡ true = ap (λ n. n == k) number ∙ here.0 in
+                ap octets_of (sym (sym (ap (λ b. if b then answer else y.answer) own) ∙ ap (λ (z : Connection). z.answer) from.is))
+                ∙ empty (idle_whole (idle_beside k (lives answered_lives)) heard (sym (ap (λ b. if b then progress else y.live.answer) own) ∙ ap (λ (z : Connection). z.live.answer) from.is ∙ idle))
+                )
+            | inr off ↦ (
+                let other : (y.live.k == k) ≡ false = ap (λ n. n == k) number ∙ off.0 in
+                ap octets_of (sym (sym (ap (λ b. if b then answer else y.answer) other) ∙ ap (λ (z : Connection). z.answer) from.is))
+                ∙ leads.heard.none_idle j y from.there (sym (ap (λ b. if b then progress else y.live.answer) other) ∙ ap (λ (z : Connection). z.live.answer) from.is ∙ idle)
+                )
+          ];
+    }
 
     windows_then : then_state.windows ≡ record s.windows { settled = false }
     windows_then = ap receiving.kept_of (quiet (rooms_in (told_by s) s))
@@ -227,10 +211,11 @@ module _ (setup : Setup) (kept : View) (rest : IsAtRest kept) (run : List Move) 
     so_then : AreSo setup (Does deed ∷ run)
     so_then known same knows = (leads.so known same knows.0, so known same knows.0)
 
-    marked_then : AreMarked setup.passing kept.marks (rooms_in (told_by then_state) then_state)
+    marked_then : AreMarked setup.passing (newest_in then_state) kept.marks (rooms_in (told_by then_state) then_state)
     marked_then =
-        subst (AreMarked setup.passing kept.marks) (sym (rooms_next setup run s leads.stands leads.so deed may so_then ∙ quiet (rooms_in (told_by s) s)))
-        (marked_event setup.passing kept.marks (rooms_in (told_by s) s) leads.marked)
+        subst (λ (os : List Opened). AreMarked setup.passing (λ j. given j os) kept.marks (rooms_in (told_by then_state) then_state)) (sym (ap (λ (d : Desk). d.book.given) desk))
+        (subst (AreMarked setup.passing (newest_in s) kept.marks) (sym (rooms_next setup run s leads.stands leads.so deed may so_then ∙ quiet (rooms_in (told_by s) s)))
+        (marked_event setup.passing (newest_in s) kept.marks (rooms_in (told_by s) s) leads.marked))
 
     keeps_then : Keeps heard_view square then_state
     keeps_then = record {
@@ -247,10 +232,10 @@ module _ (setup : Setup) (kept : View) (rest : IsAtRest kept) (run : List Move) 
         own = λ id back. ap (λ (w : receiving.Kept). (w.row id).debt) windows_then ∙ leads.keeps.credited.own id back;
       };
       counted = λ j now is.
-          let from = found_from whole j now is in
+          let from = was_so j now is in
           let was = leads.keeps.counted j from.before from.there in (
-            ap (λ (w : receiving.Kept). w.out j) windows_then ∙ was.0 ∙ sym (out_same whole from.before) ∙ ap (λ (z : Connection). z.out) from.is,
-            ap (λ (w : receiving.Kept). w.took j) windows_then ∙ was.1 ∙ sym (took_same whole from.before) ∙ ap (λ (z : Connection). z.took) from.is,
+            ap (λ (w : receiving.Kept). w.out j) windows_then ∙ was.0 ∙ ap (λ (z : Connection). z.out) from.is,
+            ap (λ (w : receiving.Kept). w.took j) windows_then ∙ was.1 ∙ ap (λ (z : Connection). z.took) from.is,
           );
     }
 

@@ -1,21 +1,23 @@
 -- An answer is lent out, and put back: what the calls come to.
-use Rattle.std.proofs.Common.{◌≡◌, ℕ, true, false, List, map, Option, Some, None, refl, ◌∙◌, ap, subst}
+use Rattle.std.proofs.Common.{◌≡◌, ℕ, true, false, List, map, Option, Some, None, refl, sym, ◌∙◌, ap, subst}
 use Rattle.std.specs.Prelude.{is_some, IfSome, MatchOption}
 use Rattle.answers.specs.Waiting.{Answer}
 use Rattle.answers.specs.declared.answer.Heard.{Heard}
+use Rattle.answers.specs.declared.answer.Heard.TheVariants as heard
+use Rattle.answers.specs.declared.answer.Passing.TheVariants.{Streaming}
 use Rattle.answers.specs.declared.answer.Ended.{Ended}
 use Rattle.offering.specs.State as offering
 use Rattle.offers.specs.Changes.{IsHeardFor, IsEndedFor}
-use Rattle.serving.specs.State.{find}
+use Rattle.serving.specs.Lines.{find}
 use Rattle.upstreams.specs.Kept as upstreams
-use Rattle.upstreams.specs.Connections.{Connection, number_of, answer_at}
+use Rattle.upstreams.specs.Connections.{Connection, number_of, answer_at, fresh}
 use Rattle.relay.specs.View.{View}
 use Rattle.relay.proofs.Lives.{answer_twice}
-use Rattle.steps.specs.exchanges.Taking.{answered_with, AreTaken, IsEndTaken}
+use Rattle.steps.specs.exchanges.Taking.{left_of, answered_with, AreTaken, IsEndTaken}
 
-module _ (kept : View) (k stream : ℕ) (nothing lent answer : Answer) (first last : upstreams.State) (offers : offering.State) (opened : is_some (find number_of k kept.upstreams.live) ≡ true)
+module _ (kept : View) (k stream : ℕ) (nothing lent : Answer) (first : upstreams.State) (offers : offering.State) (opened : is_some (find number_of k kept.upstreams.live) ≡ true)
     (stream_is : IfSome (find number_of k kept.upstreams.live) (λ c. stream ≡ c.live.stream)) (lent_is : MatchOption (find number_of k kept.upstreams.live) (lent ≡ nothing) (λ c. lent ≡ c.answer))
-    (first_is : first ≡ record kept.upstreams { live = map (answer_at k nothing) kept.upstreams.live }) (last_is : last ≡ record first { live = map (answer_at k answer) first.live }) where
+    (first_is : first ≡ record kept.upstreams { live = map (answer_at k nothing) kept.upstreams.live }) where
   -- the connection, with its stream and its answer
   record IsLent : Type 0 where
     pub connection : Connection
@@ -30,34 +32,47 @@ module _ (kept : View) (k stream : ℕ) (nothing lent answer : Answer) (first la
       by None is some of its = let no : false ≡ true = some in cc
       by (Some c) is some of its = record { connection = c; found = is; of = of; its = its }
 
-  put_back : last ≡ record kept.upstreams { live = map (answer_at k answer) kept.upstreams.live }
-  put_back =
+  -- the answer is put back
+  pub put_back : (answer : Answer) (last : upstreams.State) → last ≡ record first { live = map (answer_at k answer) first.live } → last ≡ record kept.upstreams { live = map (answer_at k answer) kept.upstreams.live }
+  put_back answer last last_is =
       last_is
       ∙ ap (λ (u : upstreams.State). record u { live = map (answer_at k answer) u.live }) first_is
       ∙ ap (λ (cs : List Connection). record kept.upstreams { live = cs }) (answer_twice k nothing answer kept.upstreams.live)
 
-  abbrev then_view : View
-  then_view = record { inbound = kept.inbound; offers = offers; upstreams = last; marks = kept.marks; encoding = kept.encoding; untaken = kept.untaken }
+  -- where the response goes on it is, and else nothing is kept of it
+  pub left_going : (answer : Answer) (last : upstreams.State) (h : Heard) → last ≡ record first { live = map (answer_at k answer) first.live } → h ≡ heard.GoesOn → last ≡ record kept.upstreams { live = map (answer_at k (left_of h answer)) kept.upstreams.live }
+  left_going answer last h last_is is = put_back answer last last_is ∙ ap (λ (w : Heard). record kept.upstreams { live = map (answer_at k (left_of w answer)) kept.upstreams.live }) (sym is)
 
-  view_is : then_view ≡ answered_with k answer offers kept
-  view_is = ap (λ (u : upstreams.State). record then_view { upstreams = u }) put_back
+  pub left_over : (answer : Answer) (h : Heard) → nothing ≡ fresh false Streaming → (h ≡ heard.GoesOn → ⊥) → first ≡ record kept.upstreams { live = map (answer_at k (left_of h answer)) kept.upstreams.live }
+  left_over answer h empty over = first_is ∙ ap (λ (a : Answer). record kept.upstreams { live = map (answer_at k a) kept.upstreams.live }) (empty ∙ by h over)
+    where
+      by : (w : Heard) → (w ≡ heard.GoesOn → ⊥) → fresh false Streaming ≡ left_of w answer
+      by heard.GoesOn over = absurd (over refl)
+      by heard.Keepable over = refl
+      by heard.Finished over = refl
+      by heard.Failed over = refl
 
-  pub octets_taken : (octets : List ℕ) (heard : Heard) → IsHeardFor kept.offers stream lent octets heard answer offers → AreTaken kept k octets heard then_view
-  octets_taken octets heard hears = record {
+  abbrev then_view : upstreams.State → View
+  then_view last = record { inbound = kept.inbound; offers = offers; upstreams = last; marks = kept.marks; encoding = kept.encoding; untaken = kept.untaken }
+
+  view_is : (left : Answer) (last : upstreams.State) → last ≡ record kept.upstreams { live = map (answer_at k left) kept.upstreams.live } → then_view last ≡ answered_with k left offers kept
+  view_is left last is = ap (λ (u : upstreams.State). record (then_view last) { upstreams = u }) is
+
+  pub octets_taken : (answer : Answer) (last : upstreams.State) (octets : List ℕ) (heard : Heard) → last ≡ record kept.upstreams { live = map (answer_at k (left_of heard answer)) kept.upstreams.live } → IsHeardFor kept.offers stream lent octets heard answer offers → AreTaken kept k octets heard (then_view last)
+  octets_taken answer last octets heard is hears = record {
     connection = is_lent.connection;
     found = is_lent.found;
     answer = answer;
     offers = offers;
     hears = subst (λ n. IsHeardFor kept.offers n is_lent.connection.answer octets heard answer offers) is_lent.of (subst (λ (a : Answer). IsHeardFor kept.offers stream a octets heard answer offers) is_lent.its hears);
-    is = view_is;
+    is = view_is (left_of heard answer) last is;
   }
 
-  pub end_taken : (ended : Ended) → IsEndedFor kept.offers stream lent ended offers → IsEndTaken kept k ended then_view
-  end_taken ended ends = record {
+  pub end_taken : (ended : Ended) → nothing ≡ fresh false Streaming → IsEndedFor kept.offers stream lent ended offers → IsEndTaken kept k ended (then_view first)
+  end_taken ended empty ends = record {
     connection = is_lent.connection;
     found = is_lent.found;
-    answer = answer;
     offers = offers;
     ends = subst (λ n. IsEndedFor kept.offers n is_lent.connection.answer ended offers) is_lent.of (subst (λ (a : Answer). IsEndedFor kept.offers stream a ended offers) is_lent.its ends);
-    is = view_is;
+    is = view_is (fresh false Streaming) first (first_is ∙ ap (λ (a : Answer). record kept.upstreams { live = map (answer_at k a) kept.upstreams.live }) empty);
   }

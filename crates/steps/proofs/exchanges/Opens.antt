@@ -1,5 +1,5 @@
 -- A connection that is due is opened, and its text goes out there: this performs.
-use Rattle.std.proofs.Common.{◌≡◌, ◌≢◌, ℕ, suc, ◌+◌, ◌<◌, Bool, true, false, not, ◌==◌, ◌&&◌, ◌||◌, List, [], ◌∷◌, ◌++◌, map, length, Option, Some, None, codes, refl, sym, ◌∙◌, ap, subst, inl, inr, if◌then◌else◌, arith}
+use Rattle.std.proofs.Common.{◌≡◌, ℕ, suc, ◌+◌, ◌<◌, Bool, true, false, not, ◌==◌, ◌&&◌, ◌||◌, List, [], ◌∷◌, ◌++◌, map, length, Option, Some, None, codes, refl, sym, ◌∙◌, ap, subst, inl, inr, if◌then◌else◌, arith}
 use Rattle.std.specs.Prelude.{is_none, is_some, option_map, nat_lt}
 use Rattle.std.specs.List.{list_any}
 use Rattle.std.proofs.lemmas.Bool.{eq-eqb, eqb-true, ltb-true, ne_eqb, and_parts}
@@ -13,15 +13,16 @@ use Rattle.model.specs.Setup.Passing.{Whole as WholePassing, Streaming}
 use Rattle.model.specs.Tapes.{Entry, put}
 use Rattle.model.specs.Tapes.Entry.{Did}
 use Rattle.model.specs.Causes.{is_front_of, Cause}
-use Rattle.model.specs.Openings.{Opened, opens, exchanges, exchange_on, given, route_of, last_stream, connection_of}
+use Rattle.model.specs.Openings.{Opened, opens, exchanges, exchange_on, given, route_of, last_stream, connection_of, begins_another, IsGivenNone}
+use Rattle.model.specs.Messages.{Item}
 use Rattle.model.specs.Known.{Known}
 use Rattle.model.specs.Lifetimes.{opened, is_opened, is_active}
 use Rattle.model.specs.Courses.{items}
 use Rattle.model.specs.Offers.{is_to_head}
 use Rattle.model.specs.StreamStates.{most_streams}
-use Rattle.model.specs.Available.{heard_by}
+use Rattle.model.specs.Available.{heard_by, IsIn}
 use Rattle.model.proofs.ItemLaws.{head_stays}
-use Rattle.model.proofs.ExchangeLaws.{none_kept}
+use Rattle.model.proofs.ExchangeLaws.{unheard}
 use Rattle.conduct.specs.Summary.{summary_of}
 use Rattle.conduct.specs.Rule.{AreKnown}
 use Rattle.conduct.specs.Book.{Book, Desk, desk_after, desk_of, summary_in}
@@ -34,30 +35,35 @@ use Rattle.receiving.proofs.Incoming.{live_among}
 use Rattle.h1_reader.specs.Standing.{Stands as Reads}
 use Rattle.h1_writer.specs.Sending.{Stage}
 use Rattle.offering.specs.Sight.{sight_in}
-use Rattle.answers.specs.Waiting.{passing_in, Waits}
+use Rattle.answers.specs.Waiting.{passing_in}
 use Rattle.answers.specs.declared.answer.Passing.{Passing}
 use Rattle.marks_kept.specs.Sides.{Side, is_above_all}
 use Rattle.marks_kept.specs.Sides.{find as find_side, opened as opened_side}
+use Rattle.marks_kept.specs.Standing.{newest_with}
 use Rattle.marks_kept.proofs.Looking.{above_all, joined_own}
 use Rattle.streams_kept.specs.Asked as asked
 use Rattle.serving.specs.State as serving
-use Rattle.serving.specs.State.{Held, Live, find, held_with, unless_whole}
+use Rattle.serving.specs.Lines as lines
+use Rattle.serving.specs.Lines.{Line, line_of, find}
+use Rattle.serving.specs.Written.{IsWritten}
+use Rattle.serving.specs.State.{Held, held_with, unless_whole}
 use Rattle.serving.specs.State.Way.{Going}
 use Rattle.serving.specs.State.Due.{Nothing, ToOpen, ToSend}
 use Rattle.serving.specs.Rule as requests
 use Rattle.serving.specs.Rule.{is_done}
 use Rattle.serving.proofs.Lists.{found_key, find_map}
-use Rattle.serving.proofs.Opening.{given_none_in}
+use Rattle.serving.proofs.Numbers.{within_opened}
+use Rattle.serving.proofs.Starting.{active_some, given_none_in}
 use Rattle.model.proofs.AloneLaws.{none_begins}
 use Rattle.serving.proofs.Standing as standing
-use Rattle.serving.proofs.Standing.{IsOpening, IsDue, IsFresh}
+use Rattle.serving.proofs.Standing.{IsStarting, IsDue}
 use Rattle.judgement.specs.Inbound.{book_of}
 use Rattle.judgement.proofs.SendingEvents.{opens_lead, puts_lead, did_desk}
 use Rattle.upstreams.specs.Kept as upstreams
 use Rattle.upstreams.specs.Kept.{opened_for}
-use Rattle.upstreams.specs.Connections.{Connection, number_of, lives, put_at}
+use Rattle.upstreams.specs.Connections.{Connection, number_of, lives, put_at, fresh}
 use Rattle.upstreams.specs.Connections as connections
-use Rattle.policy.specs.Moves.{Deed, Move, conduct_of, told_in}
+use Rattle.policy.specs.Moves.{Deed, Move, conduct_of, told_in, window_of, sent_or_used}
 use Rattle.policy.specs.Moves.Deed.{Acts}
 use Rattle.policy.specs.Moves.Move.{Does}
 use Rattle.policy.specs.State.{State, conducts, tape_of}
@@ -66,31 +72,38 @@ use Rattle.policy.specs.Steps.{told_by, told_behind, next, MayGoOn, Stands}
 use Rattle.policy.proofs.Going.{may_act}
 use Rattle.policy.proofs.Stepping.{one_more}
 use Rattle.policy.proofs.Telling.{all_moved}
-use Rattle.relay.specs.View.{View, Pending, square, Keeps, AreMarked, Leads, AreSo, AreHeard}
-use Rattle.relay.specs.Hearing.{IsHeard}
+use Rattle.relay.specs.View.{View, Pending, square, newest_in, Keeps, AreMarked, Leads, AreSo, AreHeard}
+use Rattle.relay.specs.Hearing.{IsSetUp, IsHeard}
 use Rattle.relay.specs.Rest.{told_view}
 use Rattle.relay.specs.Bringing.{OwnSegment, PerformsOwn}
-use Rattle.relay.proofs.Connected.{connection_one}
+use Rattle.relay.proofs.Connected.{none_connected}
+use Rattle.relay.proofs.Giving.{heard_fresh}
 use Rattle.relay.proofs.Lives.{lives_same}
 use Rattle.relay.proofs.Marking.{rooms_next, marked_opened, marked_opened_beside, marked_put, marked_put_beside}
 use Rattle.relay.proofs.Newest.{due_newest}
 use Rattle.model.proofs.AloneLaws.{same_exchanges}
 use Rattle.relay.proofs.Sound as sound
-use Rattle.relay.proofs.Staying.{so_stays, heard_stays, heard_of_changed, open_begun, calm_before, rows_kept}
+use Rattle.relay.proofs.Staying.{so_stays, heard_stays, heard_of_changed, heard_by_entry, open_begun, calm_before, rows_kept}
 use Rattle.steps.specs.Closings.{told_but, NoneDoneBut}
 use Rattle.steps.specs.Resting.{IsPassedBy}
 use Rattle.steps.specs.exchanges.Opening.{with_side}
 use Rattle.steps.proofs.exchanges.Asking.{asked_is}
-use Rattle.steps.proofs.exchanges.Few.{few_given, none_connected}
+use Rattle.steps.proofs.exchanges.Few.{few_given, no_more_opened, nothing_put}
 use Rattle.relay.proofs.Where.{led_to, own, own_led, right_here, stands_here, windows_here, live_here}
 
 -- ---- whether the request asks for a head
 
 -- a request's items ask for a head just where its text begins so
-asks_as_text : (known : Known) (t : List Entry) (stream route : ℕ) (text : List ℕ) (stage : Stage) → IsOpening known t stream route text stage → is_front_of (codes "HEAD ") text ≡ is_to_head (items known stream t)
-asks_as_text known t stream route text stage due =
-    let w = due.written in
-    asked_is false w.head w.well_formed.method_holds w.ended text w.pieces (passed_trailers (first_block w.more)) stage w.sending ∙ sym (ap is_to_head w.is)
+pub asks_as_text : (keep : Bool) (xs : List Item) (text : List ℕ) (stage : Stage) → IsWritten keep xs text stage → is_front_of (codes "HEAD ") text ≡ is_to_head xs
+asks_as_text keep xs text stage w =
+    asked_is keep w.head w.well_formed.method_holds w.ended text w.pieces (passed_trailers (first_block w.more)) stage w.sending ∙ sym (ap is_to_head w.is)
+
+-- an answer is passed on as the setup says
+pub set_up_by : (setup : Setup) (to_head : Bool) (passing : Passing) → IsPassedBy setup passing → (known : Known) → known.setup ≡ setup → IsSetUp known (fresh to_head passing)
+set_up_by setup to_head passing passed known same = record {
+  passing = passed.passing ∙ sym (ap (λ (x : Setup). x.passing) same);
+  limit = λ is. passed.limit (sym (ap (λ (x : Setup). x.passing) same) ∙ is) ∙ ap (λ (x : Setup). Some x.max_response) (sym same);
+}
 
 -- ---- what is kept of DATA that waits
 
@@ -112,13 +125,13 @@ debt_same : (b : Bool) (k : ℕ) (r : receiving.Row) → (if b then receiving.gi
 debt_same true k r = refl
 debt_same false k r = refl
 
-module _ (setup : Setup) (kept : View) (fresh back stream route : ℕ) (text : List ℕ) (stage : Stage) where
+module _ (setup : Setup) (kept : View) (fresh_octets back stream route : ℕ) (text : List ℕ) (stage : Stage) where
   -- what is pending before and behind it
   abbrev pub due_before : Pending
-  due_before = record square { due = ToOpen stream route text stage; fresh = fresh; shared = back }
+  due_before = record square { due = ToOpen stream route text stage; fresh = fresh_octets; shared = back }
 
   abbrev pub due_behind : Pending
-  due_behind = record square { fresh = fresh; shared = back }
+  due_behind = record square { fresh = fresh_octets; shared = back }
 
   -- the number of the connection
   abbrev pub number : ℕ
@@ -138,19 +151,19 @@ module _ (setup : Setup) (kept : View) (fresh back stream route : ℕ) (text : L
     count_is = ap (λ (r : serving.State). r.count) leads.keeps.requests
 
     -- what is due can be done, whatever is known
-    due_for : (known : Known) → known.setup ≡ setup → AreKnown known (conducts run) → IsOpening known t stream route text stage
-    due_for known same knows = subst (IsDue known t s.requests) due_is (sound.stands known run s (led_to known setup run s same knows leads.stands leads.so)).due
+    due_for : (known : Known) → known.setup ≡ setup → AreKnown known (conducts run) → IsStarting known t s.requests.live stream route text stage None
+    due_for known same knows = subst (IsDue known t s.requests.live) due_is (sound.stands known run s (led_to known setup run s same knows leads.stands leads.so)).due
 
-    due : IsOpening (own setup run s leads.stands leads.so) t stream route text stage
-    due = subst (IsDue (own setup run s leads.stands leads.so) t s.requests) due_is stand.due
+    due : IsStarting (own setup run s leads.stands leads.so) t s.requests.live stream route text stage None
+    due = subst (IsDue (own setup run s leads.stands leads.so) t s.requests.live) due_is stand.due
 
-    -- no connection has a second exchange
-    one_each : exchanges t ≡ opens t
-    one_each = none_kept (own setup run s leads.stands leads.so) t stand.off stand.in_time
+    -- its stream was given none
+    none_given : IsGivenNone stream (exchanges t)
+    none_given = given_none_in stream (exchanges t) (λ o i same. due.none_given o (record { is_opened = i; is_given = same }))
 
-    -- nothing is known of the connection yet
-    new : IsFresh t number
-    new = stand.fresh number (let same = count_is in omega (arith, same))
+    -- the number is above those of all others
+    above_others : length (opens t) < number
+    above_others = let same = sym count_is ∙ stand.count in omega (arith, same)
 
     last_is : (told_by s).last ≡ stream
     last_is = (right_here setup run s leads.stands leads.so).last ∙ due.last
@@ -166,9 +179,10 @@ module _ (setup : Setup) (kept : View) (fresh back stream route : ℕ) (text : L
         let told : conduct.IsTold (desk_of setup (conducts run)).book (summary_of (own setup run s leads.stands leads.so) t) =
         book_told (own setup run s leads.stands leads.so) (conducts run) (own_led setup run s leads.stands leads.so).knows (all_moved (own setup run s leads.stands leads.so) run leads.stands.allowed) (ap (λ (x : State). x.desk.book.ends) leads.stands.is ∙ leads.stands.goes_on) in
         let few = told.stand.few in
-        let less = few_given (opens t) (opened t) stream stand.apart (λ o i. (stand.given o i).started) (given_none_in stream (opens t) (λ o i same. due.none_given o (record { is_opened = i; is_given = same }))) stream_opened in
+        let less = few_given (exchanges t) (opened t) stream stand.apart (λ o i. (stand.given o i).started) none_given stream_opened in
         let count = sym count_is ∙ stand.count in
-        omega (arith, few, less, count)
+        let no_more = no_more_opened t in
+        omega (arith, few, less, count, no_more)
 
     -- its stream is served
     pub stream_served : (told_view kept).served stream ≡ true
@@ -201,7 +215,7 @@ module _ (setup : Setup) (kept : View) (fresh back stream route : ℕ) (text : L
     active_here = ap (λ n. is_active n t) last_is ∙ due.in_time.active
 
     none_out : s.windows.out number ≡ 0
-    none_out = rooms.counting.out number ∙ ap (λ (x : List ℕ). length x) new.unsent
+    none_out = rooms.counting.out number ∙ ap (λ (x : List ℕ). length x) (nothing_put t number stand.numbered stand.goes above_others)
 
     none_taken : s.windows.took number ≡ 0
     none_taken = let less = rooms.counting.within number in let none = none_out in omega (arith, less, none)
@@ -213,8 +227,7 @@ module _ (setup : Setup) (kept : View) (fresh back stream route : ℕ) (text : L
       first =
           (rooms.keeping.streams (told_by s).last active_here).connection
           ∙ ap (λ n. connection_of n (exchanges t)) last_is
-          ∙ ap (connection_of stream) one_each
-          ∙ none_connected stream (opens t) (given_none_in stream (opens t) (λ o i same. due.none_given o (record { is_opened = i; is_given = same })));
+          ∙ none_connected stream (exchanges t) none_given;
       unused = none_out;
       untaken = none_taken;
     }
@@ -223,7 +236,7 @@ module _ (setup : Setup) (kept : View) (fresh back stream route : ℕ) (text : L
     may_one = (
       ap (λ (d : Desk). d.book.ends) desk_one ∙ leads.stands.goes_on,
       may_act setup (told_behind setup s first) s (Open number route) (ap (λ (b : Book). b.closed) leads.keeps.book)
-          (record { nothing = leads.keeps.owed; opens = sound.opens_next (own setup run s leads.stands leads.so) run s (own_led setup run s leads.stands leads.so) number route may_open; due = may_open; window = window }),
+          (record { nothing = leads.keeps.owed; begins = sound.opens_next (own setup run s leads.stands leads.so) run s (own_led setup run s leads.stands leads.so) number route may_open; due = may_open; window = window }),
     )
 
     stands_one : Stands setup (Does first ∷ run) one
@@ -232,14 +245,14 @@ module _ (setup : Setup) (kept : View) (fresh back stream route : ℕ) (text : L
     so_one : AreSo setup (Does first ∷ run)
     so_one = so_stays setup run first tt leads.so
 
-    abbrev new_live : Live
-    new_live = record { k = number; stream = stream; whole = false }
+    abbrev new_line : Line
+    new_line = record { k = number; route = route; stream = stream; answer = lines.Answer.Pending }
 
     -- what is held then: what is still to come of the request goes out there
     abbrev pub held_then : List Held
     held_then = held_with stream (unless_whole stage (Going number stage)) kept.upstreams.held
 
-    requests_one : one.requests ≡ record { held = held_then; live = new_live ∷ lives kept.upstreams.live; due = ToSend number text; count = number }
+    requests_one : one.requests ≡ record { held = held_then; live = new_line ∷ lives kept.upstreams.live; due = ToSend number text; count = number }
     requests_one = ap (λ (r : serving.State). serving.after setup (told_in (told_behind setup s first)) r (serving.Move.Acts (Open number route))) leads.keeps.requests
 
     -- ---- its text goes out
@@ -258,7 +271,10 @@ module _ (setup : Setup) (kept : View) (fresh back stream route : ℕ) (text : L
     two = next setup one (Does second)
 
     desk_two : desk_after setup one.desk (conduct_of second) ≡ record { book = one.desk.book; queue = one.desk.queue }
-    desk_two = did_desk setup false one.desk (ToUp number text) one.desk.book [] (puts_lead setup one.desk.book number text (rows_kept setup (Does first ∷ run) one stands_one) (none_begins (given number one.desk.book.given) one.desk.book.last text its_one))
+    desk_two =
+        did_desk setup false one.desk (ToUp number text) _ [] (puts_lead setup one.desk.book number text (rows_kept setup (Does first ∷ run) one stands_one))
+        ∙ ap (λ (os : List Opened). record { book = record one.desk.book { given = os }; queue = one.desk.queue })
+        (ap (λ b. if b then record { k = number; route = route_of number one.desk.book.given; stream = one.desk.book.last } ∷ one.desk.book.given else one.desk.book.given) (none_begins (given number one.desk.book.given) one.desk.book.last text its_one))
 
     closed_one : one.desk.book.closed ≡ false
     closed_one = ap (λ (d : Desk). d.book.closed) desk_one ∙ ap (λ (b : Book). b.closed) leads.keeps.book
@@ -266,18 +282,18 @@ module _ (setup : Setup) (kept : View) (fresh back stream route : ℕ) (text : L
     may_two : MayGoOn setup one (Does second)
     may_two = (
       ap (λ (d : Desk). d.book.ends) desk_two ∙ stands_one.goes_on,
-      may_act setup (told_behind setup one second) one (ToUp number text) closed_one (record {
+      may_act setup (told_behind setup one second) one (ToUp number text) closed_one (inl (record {
         nothing = ap (λ (d : Desk). d.queue) desk_one ∙ leads.keeps.owed;
         due = ap (λ (r : serving.State). r.due) requests_one;
         window = record {
-          opened = ap (λ (r : serving.State). is_some (serving.live_of number r.live)) requests_one ∙ ap (λ b. is_some (if b then Some new_live else serving.live_of number (lives kept.upstreams.live))) (eq-eqb number number refl);
+          opened = ap (λ (r : serving.State). is_some (line_of number r.live)) requests_one ∙ ap (λ b. is_some (if b then Some new_line else line_of number (lives kept.upstreams.live))) (eq-eqb number number refl);
           its = its_one;
           in_effect = λ streaming. leads.in_effect;
         };
-      }),
+      })),
     )
 
-    requests_two : two.requests ≡ record { held = held_then; live = new_live ∷ lives kept.upstreams.live; due = Nothing; count = number }
+    requests_two : two.requests ≡ record { held = held_then; live = new_line ∷ lives kept.upstreams.live; due = Nothing; count = number }
     requests_two = ap (λ (r : serving.State). serving.after setup (told_in (told_behind setup one second)) r (serving.Move.Acts (ToUp number text))) requests_one
 
     book_two : two.desk.book ≡ record s.desk.book { given = given_one }
@@ -295,10 +311,17 @@ module _ (setup : Setup) (kept : View) (fresh back stream route : ℕ) (text : L
     given_new : given number (exchanges opened_tape) ≡ stream
     given_new = its_then ∙ due.last
 
-    -- other connections have the exchange that they had
+    -- the newest exchange of a connection, which is the new one or another
     abbrev exchange_if : Bool → ℕ → Opened
     exchange_if new j = record { k = j; route = if new then route else route_of j (exchanges t); stream = if new then last_stream t else given j (exchanges t) }
 
+    -- nothing was heard of the new exchange
+    nothing_heard : heard_by (exchange_on number opened_tape) opened_tape ≡ []
+    nothing_heard =
+        ap (λ b. heard_by (exchange_if b number) t) (eq-eqb number number refl)
+        ∙ (unheard (record { k = number; route = route; stream = last_stream t }) t (subst (λ n. IsGivenNone n (exchanges t)) (sym due.last) none_given) (λ zero. active_some (last_stream t) t (ap (λ n. is_active n t) due.last ∙ due.in_time.active) zero)).0
+
+    -- other connections have the exchange that they had
     exchange_other : (j : ℕ) → (number ≡ j → ⊥) → exchange_on j opened_tape ≡ exchange_on j t
     exchange_other j apart = ap (λ b. exchange_if b j) (ne_eqb number j apart)
 
@@ -328,95 +351,107 @@ module _ (setup : Setup) (kept : View) (fresh back stream route : ℕ) (text : L
         due_newest setup run s leads.stands leads.so streaming stream route text stage due_is other (and_parts (asked.has s.desk.book.rows other) _ on).0
         (λ own. no_side side (ap (λ n. find_side n kept.marks) (sym own) ∙ found)))
 
-    -- the new number is no other stream's
+    -- and of no stream that the number was given to, which is none, anything is kept
+    nobody : find_side (newest_in s number) kept.marks ≡ None
+    nobody = by (find_side (newest_in s number) kept.marks) refl
+      where
+        ungiven : newest_in s number ≡ 0
+        ungiven =
+            ap (λ os. given number os) (right_here setup run s leads.stands leads.so).given
+            ∙ none_of (exchanges t) (λ o i same. let le = within_opened t o stand.numbered stand.goes i in let lt = above_others in let e : o.k ≡ number = same in omega (arith, le, lt, e))
+          where
+            none_of : (os : List Opened) → ((o : Opened) → IsIn o os → o.k ≡ number → ⊥) → given number os ≡ 0
+            none_of [] none = refl
+            none_of (o ∷ os) none = ap (λ b. if b then o.stream else given number os) (ne_eqb o.k number (none o (inl refl))) ∙ none_of os (λ p i. none p (inr i))
+
+        by : (o : Option Side) → find_side (newest_in s number) kept.marks ≡ o → o ≡ None
+        by None found = refl
+        by (Some side) found =
+            let on : is_active 0 t ≡ true = sym (live_among setup.passing t windows_before 0 rooms.keeping) ∙ leads.marked.stand.live 0 side (ap (λ n. find_side n kept.marks) (sym ungiven) ∙ found) in
+            absurd (active_some 0 t on refl)
+
     abbrev windows_opened : receiving.State
     windows_opened = receiving.with_act windows_before (Open number route)
 
-    alone_one : (other : ℕ) → other ≢ stream → receiving.is_live windows_opened other ≡ true → (windows_opened.row other).k ≢ number
-    alone_one other apart on same =
-        let here : (windows_before.row other).k ≡ number = sym (ap (λ b. (if b then receiving.given number (windows_before.row other) else windows_before.row other).k) (ne_eqb (told_by s).last other (λ is. apart (sym (sym last_is ∙ is))))) ∙ same in
-        let active : is_active other t ≡ true = sym (live_among setup.passing t windows_before other rooms.keeping) ∙ on in
-        let first : connection_of other (opens t) ≡ number = sym (ap (connection_of other) one_each) ∙ sym (rooms.keeping.streams other active).connection ∙ here in
-        apart (connection_one (record { k = number; route = route; stream = stream } ∷ opens t) other stream number (ap suc (sym count_is ∙ stand.count), stand.numbered)
-        (ap (λ b. if b then number else connection_of other (opens t)) (ne_eqb stream other (λ is. apart (sym is))) ∙ first)
-        (ap (λ b. if b then number else connection_of stream (opens t)) (eq-eqb stream stream refl)) (omega arith))
+    abbrev newest_then : ℕ → ℕ
+    newest_then = newest_with number windows_before.stream (newest_in s)
 
-    marked_by : (p : Way) → setup.passing ≡ p → AreMarked setup.passing (with_side p stream number (length text) kept.marks) (receiving.with_act windows_opened (ToUp number text))
+    its_newest : newest_then number ≡ stream
+    its_newest = ap (λ b. if b then windows_before.stream else newest_in s number) (eq-eqb number number refl) ∙ last_is
+
+    marked_by : (p : Way) → setup.passing ≡ p → AreMarked setup.passing newest_then (with_side p stream number (length text) kept.marks) (receiving.with_act windows_opened (ToUp number text))
     marked_by WholePassing is =
-        marked_put_beside setup.passing kept.marks windows_opened (marked_opened_beside setup.passing kept.marks windows_before leads.marked number route is) number text
-        (λ id side found. absurd (let no : ◌≡◌ {A = Option Side} None (Some side) = ap (λ (sides : List Side). find_side id sides) (sym (leads.marked.none is)) ∙ found in let clash : ◌≡◌ {A = Option Side} None (Some side) = no in cc))
+        marked_put_beside setup.passing newest_then kept.marks windows_opened (marked_opened_beside setup.passing (newest_in s) kept.marks windows_before leads.marked number route is) number text
+        (λ side found. absurd (let no : ◌≡◌ {A = Option Side} None (Some side) = ap (λ (sides : List Side). find_side (newest_then number) sides) (sym (leads.marked.none is)) ∙ found in let clash : ◌≡◌ {A = Option Side} None (Some side) = no in cc))
     marked_by Streaming is =
-        let opened_here : AreMarked setup.passing (kept.marks ++ opened_side stream number ∷ []) windows_opened =
-        subst (λ n. AreMarked setup.passing (kept.marks ++ opened_side n number ∷ []) windows_opened) last_is
-        (marked_opened setup.passing kept.marks windows_before leads.marked number route (omega arith) is window.active (ap (λ n. find_side n kept.marks) last_is ∙ no_side_kept) none_out none_taken) in
-        marked_put setup.passing (kept.marks ++ opened_side stream number ∷ []) windows_opened opened_here number stream text (opened_side stream number) (joined_own (opened_side stream number) kept.marks no_side_kept) refl alone_one
+        let opened_here : AreMarked setup.passing newest_then (kept.marks ++ opened_side stream number 0 0 ∷ []) windows_opened =
+        subst (λ n. AreMarked setup.passing newest_then (kept.marks ++ opened_side n number 0 0 ∷ []) windows_opened) last_is
+        (marked_opened setup.passing (newest_in s) kept.marks windows_before leads.marked number route (omega arith) is window.active (ap (λ n. find_side n kept.marks) last_is ∙ no_side_kept) nobody none_out none_taken) in
+        marked_put setup.passing newest_then (kept.marks ++ opened_side stream number 0 0 ∷ []) windows_opened opened_here number stream text (opened_side stream number 0 0) (joined_own (opened_side stream number 0 0) kept.marks no_side_kept) refl its_newest
 
-    marked_two : AreMarked setup.passing (with_side setup.passing stream number (length text) kept.marks) (rooms_in (told_by two) two)
+    -- no exchange begins with the text
+    none_begun : begins_another (given number one.desk.book.given) one.desk.book.last text ≡ false
+    none_begun = none_begins (given number one.desk.book.given) one.desk.book.last text its_one
+
+    abbrev windows_end : receiving.Kept
+    windows_end = receiving.kept_of (receiving.with_act (rooms_in (told_by one) one) (ToUp number text))
+
+    windows_two : two.windows ≡ windows_end
+    windows_two = ap (λ b. receiving.kept_of (receiving.after setup.passing (rooms_in (told_by one) one) (sent_or_used b number text))) none_begun
+
+    marked_two : AreMarked setup.passing (newest_in two) (with_side setup.passing stream number (length text) kept.marks) (rooms_in (told_by two) two)
     marked_two =
-        subst (AreMarked setup.passing (with_side setup.passing stream number (length text) kept.marks))
+        subst (λ (os : List Opened). AreMarked setup.passing (λ j. given j os) (with_side setup.passing stream number (length text) kept.marks) (rooms_in (told_by two) two)) (sym (ap (λ (b : Book). b.given) book_two))
+        (subst (AreMarked setup.passing newest_then (with_side setup.passing stream number (length text) kept.marks))
         (sym (rooms_next setup (Does first ∷ run) one stands_one so_one second may_two (so_stays setup (Does first ∷ run) second tt so_one)
+        ∙ put_windows
         ∙ ap (λ (x : receiving.State). receiving.with_act x (ToUp number text)) (rooms_next setup run s leads.stands leads.so first may_one so_one)))
-        (marked_by setup.passing refl)
+        (marked_by setup.passing refl))
+      where
+        put_windows : receiving.after setup.passing (rooms_in (told_by one) one) (window_of (sight_in (told_by one)) (sight_in (told_behind setup one second)) second) ≡ receiving.with_act (rooms_in (told_by one) one) (ToUp number text)
+        put_windows = ap (λ b. receiving.after setup.passing (rooms_in (told_by one) one) (sent_or_used b number text)) none_begun
 
-    module _ (to_head : Bool) (passing : Passing) (passed : IsPassedBy setup passing) (asks : to_head ≡ is_front_of (codes "HEAD ") text) (reads : Reads [] [] (connections.opened number stream to_head passing).answer.reader) where
+    module _ (to_head : Bool) (passing : Passing) (passed : IsPassedBy setup passing) (asks : to_head ≡ is_front_of (codes "HEAD ") text) (reads : Reads [] [] (fresh to_head passing).reader) where
       abbrev pub new_connection : Connection
-      new_connection = connections.opened number stream to_head passing
-
-      -- nothing waits of its answer
-      none_waits : (p : Way) → Waits p [] new_connection.answer
-      none_waits WholePassing = (refl, refl, refl)
-      none_waits Streaming = (refl, refl, refl)
+      new_connection = connections.opened number route stream to_head passing
 
       -- the new answer stands for nothing
       heard_new : (known : Known) → known.setup ≡ setup → AreKnown known (conducts run) → IsHeard known opened_tape number new_connection.answer
       heard_new known same knows =
           let it = due_for known same knows in
           let some : items known stream t ≡ [] → ⊥ = standing.some_items (items known stream t) it.head it.has_head in
-          record {
-            parts = [];
-            stands = subst (λ x. Reads x [] new_connection.answer.reader) (sym (new.unheard (exchange_on number opened_tape) refl)) reads;
-            short = omega arith;
-            few_named = omega arith;
-            goes_on = refl;
-            waits = none_waits (passing_in passing);
-            asked =
-                asks ∙ asks_as_text known t stream route text stage it
-                ∙ head_stays known stream t (Did (Open number route)) some
-                ∙ ap (λ n. is_to_head (items known n opened_tape)) (sym given_new);
-            set_up = record {
-              passing = passed.passing ∙ sym (ap (λ (x : Setup). x.passing) same);
-              limit = λ is. passed.limit (sym (ap (λ (x : Setup). x.passing) same) ∙ is) ∙ ap (λ (x : Setup). Some x.max_response) (sym same);
-            };
-          }
+          heard_fresh known opened_tape number to_head passing reads nothing_heard
+          (asks ∙ asks_as_text known.setup.keep (items known stream t) text stage it.written
+          ∙ head_stays known stream t (Did (Open number route)) some
+          ∙ ap (λ n. is_to_head (items known n opened_tape)) (sym given_new))
+          (set_up_by setup to_head passing passed known same)
 
       -- and the others as before
-      heard_other : (known : Known) → known.setup ≡ setup → AreKnown known (conducts run) → (j : ℕ) (c : Connection) → (number ≡ j → ⊥) → find number_of j kept.upstreams.live ≡ Some c → IsHeard known t j c.answer → IsHeard known opened_tape j c.answer
-      heard_other known same knows j c apart found is = record {
-        parts = is.parts;
-        stands = subst (λ (x : Opened). Reads (heard_by x t) is.parts c.answer.reader) (sym (exchange_other j apart)) is.stands;
-        short = is.short;
-        few_named = is.few_named;
-        goes_on = is.goes_on;
-        waits = is.waits;
-        asked =
-            is.asked
-            ∙ head_stays known (given j (exchanges t)) t (Did (Open number route)) (open_begun setup run s leads.stands leads.so kept.upstreams.live (ap (λ (r : serving.State). r.live) leads.keeps.requests) known same knows j c found)
-            ∙ ap (λ n. is_to_head (items known n opened_tape)) (sym (ap (λ (x : Opened). x.stream) (exchange_other j apart)));
-        set_up = is.set_up;
-      }
-
       heard_one : AreHeard setup (Does first ∷ run) (new_connection ∷ kept.upstreams.live)
-      heard_one known same knows j c found goes_on calm = elim (eqb_tells number j) [
-        | inl is ↦ (
-            let it : Some new_connection ≡ Some c = sym (ap (λ b. if b then Some new_connection else find number_of j kept.upstreams.live) is.0) ∙ found in
-            let this : new_connection ≡ c = cc in
-            subst (λ n. IsHeard known opened_tape n c.answer) is.1 (subst (λ (x : Connection). IsHeard known opened_tape number x.answer) this (heard_new known same knows.0))
-            )
-        | inr off ↦ (
-            let before : find number_of j kept.upstreams.live ≡ Some c = sym (ap (λ b. if b then Some new_connection else find number_of j kept.upstreams.live) off.0) ∙ found in
-            heard_other known same knows.0 j c off.1 before (leads.heard known same knows.0 j c before goes_on (calm_before known c.live.stream (Did (Open number route)) t calm))
-            )
-      ]
+      heard_one = record {
+        so = λ known same knows j c found goes_on calm. elim (eqb_tells number j) [
+          | inl is ↦ (
+              let it : Some new_connection ≡ Some c = sym (ap (λ b. if b then Some new_connection else find number_of j kept.upstreams.live) is.0) ∙ found in
+              let this : new_connection ≡ c = cc in
+              subst (λ n. IsHeard known opened_tape n c.answer) is.1 (subst (λ (x : Connection). IsHeard known opened_tape number x.answer) this (heard_new known same knows.0))
+              )
+          | inr off ↦ (
+              let before : find number_of j kept.upstreams.live ≡ Some c = sym (ap (λ b. if b then Some new_connection else find number_of j kept.upstreams.live) off.0) ∙ found in
+              heard_by_entry known t (Did (Open number route)) j c.answer refl (exchange_other j off.1)
+              (open_begun setup run s leads.stands leads.so kept.upstreams.live (ap (λ (r : serving.State). r.live) leads.keeps.requests) known same knows.0 j c before)
+              (leads.heard.so known same knows.0 j c before goes_on (calm_before known c.live.stream (Did (Open number route)) t calm))
+              )
+        ];
+        none_idle = λ j c found idle. elim (eqb_tells number j) [
+          | inl is ↦ (
+              let it : Some new_connection ≡ Some c = sym (ap (λ b. if b then Some new_connection else find number_of j kept.upstreams.live) is.0) ∙ found in
+              let this : new_connection ≡ c = cc in
+              let no : lines.Answer.Pending ≡ lines.Answer.Idle = ap (λ (x : Connection). x.live.answer) this ∙ idle in
+              cc
+              )
+          | inr off ↦ leads.heard.none_idle j c (sym (ap (λ b. if b then Some new_connection else find number_of j kept.upstreams.live) off.0) ∙ found) idle
+        ];
+      }
 
       -- ---- what is kept then
 
@@ -424,13 +459,13 @@ module _ (setup : Setup) (kept : View) (fresh back stream route : ℕ) (text : L
       put_out cs = map (put_at number (length text)) cs
 
       -- how much was put out for each connection, and how much of it was taken
-      counted_one : (j : ℕ) (x : Connection) → find number_of j (new_connection ∷ kept.upstreams.live) ≡ Some x → (two.windows.out j ≡ (put_at number (length text) x).out) × (two.windows.took j ≡ (put_at number (length text) x).took)
+      counted_one : (j : ℕ) (x : Connection) → find number_of j (new_connection ∷ kept.upstreams.live) ≡ Some x → (windows_end.out j ≡ (put_at number (length text) x).out) × (windows_end.took j ≡ (put_at number (length text) x).took)
       counted_one j x found = elim (eqb_tells number j) [
         | inl is ↦ (
             let it : Some new_connection ≡ Some x = sym (ap (λ b. if b then Some new_connection else find number_of j kept.upstreams.live) is.0) ∙ found in
             let this : new_connection ≡ x = cc in
-            subst (λ (y : Connection). (two.windows.out j ≡ (put_at number (length text) y).out) × (two.windows.took j ≡ (put_at number (length text) y).took)) this
-            (subst (λ n. (two.windows.out n ≡ (put_at number (length text) new_connection).out) × (two.windows.took n ≡ (put_at number (length text) new_connection).took)) is.1 counted_new)
+            subst (λ (y : Connection). (windows_end.out j ≡ (put_at number (length text) y).out) × (windows_end.took j ≡ (put_at number (length text) y).took)) this
+            (subst (λ n. (windows_end.out n ≡ (put_at number (length text) new_connection).out) × (windows_end.took n ≡ (put_at number (length text) new_connection).took)) is.1 counted_new)
             )
         | inr off ↦ (
             let before : find number_of j kept.upstreams.live ≡ Some x = sym (ap (λ b. if b then Some new_connection else find number_of j kept.upstreams.live) off.0) ∙ found in
@@ -443,7 +478,7 @@ module _ (setup : Setup) (kept : View) (fresh back stream route : ℕ) (text : L
             )
       ]
         where
-          counted_new : (two.windows.out number ≡ (put_at number (length text) new_connection).out) × (two.windows.took number ≡ (put_at number (length text) new_connection).took)
+          counted_new : (windows_end.out number ≡ (put_at number (length text) new_connection).out) × (windows_end.took number ≡ (put_at number (length text) new_connection).took)
           counted_new = (
             ap (λ b. if b then s.windows.out number + length text else s.windows.out number) (eq-eqb number number refl)
                 ∙ ap (λ n. n + length text) none_out
@@ -451,15 +486,15 @@ module _ (setup : Setup) (kept : View) (fresh back stream route : ℕ) (text : L
             none_taken,
           )
 
-      counted_two : (j : ℕ) (c : Connection) → find number_of j (put_out (new_connection ∷ kept.upstreams.live)) ≡ Some c → (two.windows.out j ≡ c.out) × (two.windows.took j ≡ c.took)
+      counted_two : (j : ℕ) (c : Connection) → find number_of j (put_out (new_connection ∷ kept.upstreams.live)) ≡ Some c → (windows_end.out j ≡ c.out) × (windows_end.took j ≡ c.took)
       counted_two j c found =
           by (find number_of j (new_connection ∷ kept.upstreams.live)) refl (sym (find_map number_of (put_at number (length text)) (λ x. refl) j (new_connection ∷ kept.upstreams.live)) ∙ found)
         where
-          by : (o : Option Connection) → find number_of j (new_connection ∷ kept.upstreams.live) ≡ o → option_map (put_at number (length text)) o ≡ Some c → (two.windows.out j ≡ c.out) × (two.windows.took j ≡ c.took)
+          by : (o : Option Connection) → find number_of j (new_connection ∷ kept.upstreams.live) ≡ o → option_map (put_at number (length text)) o ≡ Some c → (windows_end.out j ≡ c.out) × (windows_end.took j ≡ c.took)
           by None is none = let clash : ◌≡◌ {A = Option Connection} None (Some c) = none in cc
           by (Some x) is some =
               let this : put_at number (length text) x ≡ c = cc in
-              subst (λ (y : Connection). (two.windows.out j ≡ y.out) × (two.windows.took j ≡ y.took)) this (counted_one j x is)
+              subst (λ (y : Connection). (windows_end.out j ≡ y.out) × (windows_end.took j ≡ y.took)) this (counted_one j x is)
 
       abbrev pub opened_view : View
       opened_view = record kept { marks = with_side setup.passing stream number (length text) kept.marks; upstreams = record { held = held_then; live = put_out (new_connection ∷ kept.upstreams.live); count = number } }
@@ -472,16 +507,16 @@ module _ (setup : Setup) (kept : View) (fresh back stream route : ℕ) (text : L
             ∙ ap (λ (os : List Opened). book_of (record { given = os; untaken = kept.untaken }) kept.inbound) (sym (ap (λ (b : Book). b.given) book_two));
         owed = ap (λ (d : Desk). d.queue) desk_two ∙ ap (λ (d : Desk). d.queue) desk_one ∙ leads.keeps.owed;
         offers = leads.keeps.offers;
-        requests = requests_two ∙ ap (λ (ls : List Live). record { held = held_then; live = ls; due = Nothing; count = number }) (sym (lives_same (put_at number (length text)) (λ c. refl) (new_connection ∷ kept.upstreams.live)));
+        requests = requests_two ∙ ap (λ (ls : List Line). record { held = held_then; live = ls; due = Nothing; count = number }) (sym (lives_same (put_at number (length text)) (λ c. refl) (new_connection ∷ kept.upstreams.live)));
         decoding = leads.keeps.decoding;
         encoding = leads.keeps.encoding;
         read = leads.keeps.read;
         credited = record {
-          fresh = leads.keeps.credited.fresh;
-          shared = leads.keeps.credited.shared;
-          own = λ id goes. debt_same ((told_by s).last == id) number (s.windows.row id) ∙ leads.keeps.credited.own id goes;
+          fresh = ap (λ (w : receiving.Kept). w.count) windows_two ∙ leads.keeps.credited.fresh;
+          shared = ap (λ (w : receiving.Kept). w.debt) windows_two ∙ leads.keeps.credited.shared;
+          own = λ id goes. ap (λ (w : receiving.Kept). (w.row id).debt) windows_two ∙ debt_same ((told_by s).last == id) number (s.windows.row id) ∙ leads.keeps.credited.own id goes;
         };
-        counted = counted_two;
+        counted = λ j c found. let it = counted_two j c found in (ap (λ (w : receiving.Kept). w.out j) windows_two ∙ it.0, ap (λ (w : receiving.Kept). w.took j) windows_two ∙ it.1);
       }
 
       -- A connection that is due is opened, and its text goes out.
@@ -508,15 +543,15 @@ module _ (setup : Setup) (kept : View) (fresh back stream route : ℕ) (text : L
 -- ---- in the words of the calls
 
 module _ (kept : View) (stream route : ℕ) (text : List ℕ) (stage : Stage) (to_head : Bool) (passing : Passing) (middle behind : upstreams.State) (sides : List Side) (k count : ℕ) (before between after : List Output)
-    (asks : to_head ≡ is_front_of (codes "HEAD ") text) (reads : Reads [] [] (connections.opened (suc kept.upstreams.count) stream to_head passing).answer.reader)
+    (asks : to_head ≡ is_front_of (codes "HEAD ") text) (reads : Reads [] [] (fresh to_head passing).reader)
     (is_number : k ≡ suc kept.upstreams.count) (is_count : count ≡ length text)
-    (opened_is : middle ≡ opened_for stream to_head passing stage kept.upstreams)
+    (opened_is : middle ≡ opened_for stream route to_head passing stage kept.upstreams)
     (put_is : behind ≡ record middle { live = map (put_at k count) middle.live }) (sides_are : sides ≡ with_side (passing_in passing) stream k count kept.marks)
     (opens_out : between ≡ put before (Puts (Open k route))) (puts_out : after ≡ put between (Puts (ToUp k text))) where
-  upstreams_are : (let u : upstreams.State = opened_for stream to_head passing stage kept.upstreams in record u { live = map (put_at (suc kept.upstreams.count) (length text)) u.live }) ≡ behind
+  upstreams_are : (let u : upstreams.State = opened_for stream route to_head passing stage kept.upstreams in record u { live = map (put_at (suc kept.upstreams.count) (length text)) u.live }) ≡ behind
   upstreams_are =
-      ap (λ n. let u : upstreams.State = opened_for stream to_head passing stage kept.upstreams in record u { live = map (put_at n (length text)) u.live }) (sym is_number)
-      ∙ ap (λ n. let u : upstreams.State = opened_for stream to_head passing stage kept.upstreams in record u { live = map (put_at k n) u.live }) (sym is_count)
+      ap (λ n. let u : upstreams.State = opened_for stream route to_head passing stage kept.upstreams in record u { live = map (put_at n (length text)) u.live }) (sym is_number)
+      ∙ ap (λ n. let u : upstreams.State = opened_for stream route to_head passing stage kept.upstreams in record u { live = map (put_at k n) u.live }) (sym is_count)
       ∙ ap (λ (u : upstreams.State). record u { live = map (put_at k count) u.live }) (sym opened_is)
       ∙ sym put_is
 
@@ -534,20 +569,20 @@ module _ (kept : View) (stream route : ℕ) (text : List ℕ) (stage : Stage) (t
       ∙ sym puts_out
 
   -- The calls perform.
-  pub calls_perform : (setup : Setup) (fresh back : ℕ) → IsPassedBy setup passing
-      → PerformsOwn setup kept (record square { due = ToOpen stream route text stage; fresh = fresh; shared = back }) before (record kept { upstreams = behind; marks = sides }) (record square { fresh = fresh; shared = back }) after
-  calls_perform setup fresh back passed run s leads =
-      subst (λ (u : upstreams.State). OwnSegment setup run s before (record kept { upstreams = u; marks = sides }) (record square { fresh = fresh; shared = back }) after) upstreams_are
-      (subst (λ (ms : List Side). OwnSegment setup run s before (record (opened_view setup kept fresh back stream route text stage run s leads to_head passing passed asks reads) { marks = ms }) (record square { fresh = fresh; shared = back }) after) (marks_are setup.passing passed.passing)
-      (subst (λ (o : List Output). OwnSegment setup run s before (opened_view setup kept fresh back stream route text stage run s leads to_head passing passed asks reads) (record square { fresh = fresh; shared = back }) o) outputs_are
-      (opened_performs setup kept fresh back stream route text stage run s leads to_head passing passed asks reads before)))
+  pub calls_perform : (setup : Setup) (fresh_octets back : ℕ) → IsPassedBy setup passing
+      → PerformsOwn setup kept (record square { due = ToOpen stream route text stage; fresh = fresh_octets; shared = back }) before (record kept { upstreams = behind; marks = sides }) (record square { fresh = fresh_octets; shared = back }) after
+  calls_perform setup fresh_octets back passed run s leads =
+      subst (λ (u : upstreams.State). OwnSegment setup run s before (record kept { upstreams = u; marks = sides }) (record square { fresh = fresh_octets; shared = back }) after) upstreams_are
+      (subst (λ (ms : List Side). OwnSegment setup run s before (record (opened_view setup kept fresh_octets back stream route text stage run s leads to_head passing passed asks reads) { marks = ms }) (record square { fresh = fresh_octets; shared = back }) after) (marks_are setup.passing passed.passing)
+      (subst (λ (o : List Output). OwnSegment setup run s before (opened_view setup kept fresh_octets back stream route text stage run s leads to_head passing passed asks reads) (record square { fresh = fresh_octets; shared = back }) o) outputs_are
+      (opened_performs setup kept fresh_octets back stream route text stage run s leads to_head passing passed asks reads before)))
 
 -- The new connection isn't done with, since its stream is served.
-pub opens_but : (kept : View) (stream k count : ℕ) (to_head : Bool) (passing : Passing) (stage : Stage) (middle behind : upstreams.State) (sides : List Side) → (told_view kept).served stream ≡ true
-    → middle ≡ opened_for stream to_head passing stage kept.upstreams → behind ≡ record middle { live = map (put_at k count) middle.live }
+pub opens_but : (kept : View) (stream route k count : ℕ) (to_head : Bool) (passing : Passing) (stage : Stage) (middle behind : upstreams.State) (sides : List Side) → (told_view kept).served stream ≡ true
+    → middle ≡ opened_for stream route to_head passing stage kept.upstreams → behind ≡ record middle { live = map (put_at k count) middle.live }
     → (id : ℕ) → NoneDoneBut id kept → NoneDoneBut id (record kept { upstreams = behind; marks = sides })
-opens_but kept stream k count to_head passing stage middle behind sides served opened_is put_is id none =
-    ap (λ (ls : List Live). list_any (is_done (told_but id kept)) ls)
+opens_but kept stream route k count to_head passing stage middle behind sides served opened_is put_is id none =
+    ap (λ (ls : List Line). list_any (is_done (told_but id kept)) ls)
     (ap (λ (u : upstreams.State). lives u.live) put_is ∙ lives_same (put_at k count) (λ c. refl) middle.live ∙ ap (λ (u : upstreams.State). lives u.live) opened_is)
     ∙ by (id == stream)
   where

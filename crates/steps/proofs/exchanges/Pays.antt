@@ -9,8 +9,8 @@ use Rattle.model.specs.Logs.Output.{ToClient, Does}
 use Rattle.model.specs.Setup.{Setup}
 use Rattle.model.specs.Setup.Passing.{Whole}
 use Rattle.model.specs.Tapes.{Entry, put, sent}
-use Rattle.model.specs.Openings.{Opened, opens, exchange_on}
-use Rattle.model.specs.Available.{items_on, heard_by, ended_by, shown, IsIn, IsShown}
+use Rattle.model.specs.Openings.{Opened, exchanges, exchange_on}
+use Rattle.model.specs.Available.{items_on, heard_by, ended_by, shown, IsShown}
 use Rattle.model.specs.Known.{Known}
 use Rattle.model.specs.Deliveries.{Delivery}
 use Rattle.model.specs.Responses.{IsComplete}
@@ -38,8 +38,8 @@ use Rattle.offering.proofs.Standing.{HasNoOffer}
 use Rattle.answers.specs.Waiting.{Answer}
 use Rattle.h1_reader.proofs.Telling.{not_done}
 use Rattle.offers.specs.Asked.{is_cut_if, is_kept}
-use Rattle.serving.specs.State.{Held, find, id_of, without}
-use Rattle.serving.proofs.Standing as standing
+use Rattle.serving.specs.Lines.{find, without, is_idle}
+use Rattle.serving.specs.State.{Held, id_of}
 use Rattle.streams_kept.specs.Asked as asked
 use Rattle.streams_kept.specs.Asked.{has}
 use Rattle.upstreams.specs.Connections.{Connection, number_of, answer_at}
@@ -63,7 +63,7 @@ use Rattle.steps.specs.exchanges.Taking.{answered_with}
 use Rattle.steps.proofs.exchanges.Coming as coming
 use Rattle.steps.proofs.exchanges.FailedRows as failing
 use Rattle.steps.proofs.exchanges.Fails.{resets_for, FailsBy}
-use Rattle.relay.proofs.Where.{own, own_led, placed_here, right_here, stands_here}
+use Rattle.relay.proofs.Where.{own, own_led, placed_here, right_here}
 
 -- what goes once goes no more
 without_twice : (id : ℕ) (hs : List Held) → without id_of id (without id_of id hs) ≡ without id_of id hs
@@ -116,7 +116,7 @@ pays_reset setup v stream there few free outputs run s leads =
     not_to_open : may_open (rows.ids_of (replied_to stream v).inbound.rows) stream ≡ false
     not_to_open = failing.opened_once (rows.ids_of (replied_to stream v).inbound.rows) stream (has_same stream stream _ v.inbound.rows ∙ there)
 
-module _ (setup : Setup) (kept : View) (rest : IsAtRest kept) (run : List Move) (s : State) (leads : Leads setup run kept square s) (k : ℕ) (c : Connection) (found : find number_of k kept.upstreams.live ≡ Some c) where
+module _ (setup : Setup) (kept : View) (rest : IsAtRest kept) (run : List Move) (s : State) (leads : Leads setup run kept square s) (k : ℕ) (c : Connection) (found : find number_of k kept.upstreams.live ≡ Some c) (working : is_idle c.live.answer ≡ false) where
   abbrev stream : ℕ
   stream = c.live.stream
 
@@ -125,13 +125,13 @@ module _ (setup : Setup) (kept : View) (rest : IsAtRest kept) (run : List Move) 
 
   -- an event of the connection is about its stream, which is active
   active_on_tape : is_active stream t ≡ true
-  active_on_tape = sym ((right_here setup run s leads.stands leads.so).active stream) ∙ (coming.event_of setup kept rest run s leads k c found (Rattle.model.specs.Logs.Event.UpEnd k) refl).active
+  active_on_tape = sym ((right_here setup run s leads.stands leads.so).active stream) ∙ (coming.event_of setup kept rest run s leads k c found working (Rattle.model.specs.Logs.Event.UpEnd k) refl).active
 
   pub active_row : asked.is_active kept.inbound.rows stream ≡ true
-  active_row = ap (λ (b : Book). asked.is_active b.rows stream) (sym leads.keeps.book) ∙ (coming.event_of setup kept rest run s leads k c found (Rattle.model.specs.Logs.Event.UpEnd k) refl).active
+  active_row = ap (λ (b : Book). asked.is_active b.rows stream) (sym leads.keeps.book) ∙ (coming.event_of setup kept rest run s leads k c found working (Rattle.model.specs.Logs.Event.UpEnd k) refl).active
 
   no_cause : (rows.find kept.inbound.rows stream).brief.cause ≡ None
-  no_cause = ap (λ (b : Book). (rows.find b.rows stream).brief.cause) (sym leads.keeps.book) ∙ (coming.event_of setup kept rest run s leads k c found (Rattle.model.specs.Logs.Event.UpEnd k) refl).no_cause
+  no_cause = ap (λ (b : Book). (rows.find b.rows stream).brief.cause) (sym leads.keeps.book) ∙ (coming.event_of setup kept rest run s leads k c found working (Rattle.model.specs.Logs.Event.UpEnd k) refl).no_cause
 
   -- ---- its outbox
 
@@ -177,28 +177,22 @@ module _ (setup : Setup) (kept : View) (rest : IsAtRest kept) (run : List Move) 
     no_head read box same some (inr none) =
         let no : false ≡ true = ap (λ (d : Delivery). is_some d.head) (sym none.nothing_read) ∙ some in let clash : false ≡ true = no in cc
     no_head read box same some (inl (inl replied)) =
-        let calm = coming.calm setup kept rest run s leads k c found known_here refl (own_led setup run s leads.stands leads.so).knows in
+        let calm = coming.calm setup kept rest run s leads k c found working known_here refl (own_led setup run s leads.stands leads.so).knows in
         let no : ◌≡◌ {A = Option Cause} None (Some replied.cause) = sym calm ∙ replied.has_cause in cc
     no_head read box same some (inl (inr passed)) = by passed.shows
       where
-        stand : standing.Stands known_here t s.requests
-        stand = stands_here setup run s leads.stands leads.so
-
-        same_o : passed.o ≡ (coming.given_here setup kept rest run s leads k c found).0
-        same_o =
-            let o = coming.given_here setup kept rest run s leads k c found in
-            one_connection (opens t) passed.o o.0 stand.apart (subst (IsIn passed.o) (coming.one_each setup kept rest run s leads k c found) passed.given.is_opened) o.1 (passed.given.is_given ∙ sym o.3)
-
         here : exchange_on k t ≡ passed.o
-        here = coming.newest setup kept rest run s leads k c found ∙ sym same_o
+        here =
+            one_connection (exchanges t) (exchange_on k t) passed.o (coming.apart_here setup kept rest run s leads k c found working) (coming.there_here setup kept rest run s leads k c found working) passed.given.is_opened
+            (coming.given_is_stream setup kept rest run s leads k c found working ∙ sym passed.given.is_given)
 
         by : IsShown setup.passing (heard_by passed.o t) (ended_by passed.o t) (is_to_head (items known_here stream t)) (offered_by read box) → ⊥
         by (inl whole_one) =
-            let is = coming.heard_own setup kept rest run s leads k c found in
-            let asked : c.answer.reader.to_head ≡ is_to_head (items known_here stream t) = is.asked ∙ ap (λ n. is_to_head (items known_here n t)) (coming.given_is_stream setup kept rest run s leads k c found) in
+            let is = coming.heard_own setup kept rest run s leads k c found working in
+            let asked : c.answer.reader.to_head ≡ is_to_head (items known_here stream t) = is.asked ∙ ap (λ n. is_to_head (items known_here n t)) (coming.given_is_stream setup kept rest run s leads k c found working) in
             not_done (heard_by (exchange_on k t) t) is.parts c.answer.reader is.stands is.goes_on
             (subst (λ b. IsComplete (heard_by (exchange_on k t) t) false b) (sym asked)
-            (subst (λ b. IsComplete (heard_by (exchange_on k t) t) b (is_to_head (items known_here stream t))) (coming.not_ended setup kept rest run s leads k c found)
+            (subst (λ b. IsComplete (heard_by (exchange_on k t) t) b (is_to_head (items known_here stream t))) (coming.not_ended setup kept rest run s leads k c found working)
             (subst (λ (x : Opened). IsComplete (heard_by x t) (ended_by x t) (is_to_head (items known_here stream t))) (sym here) (whole_one.response, whole_one.is_whole))))
         by (inr begun) =
             let none : read.head ≡ None = sym same ∙ ap (λ (d : Delivery). d.head) begun.says ∙ ap (λ p. (shown p begun.interims begun.head begun.octets).head) whole in

@@ -1,12 +1,11 @@
 -- Octets that are due on an open connection go out: this performs.
-use Rattle.std.proofs.Common.{◌≡◌, ℕ, ◌+◌, ◌<◌, ◌^◌, false, ◌==◌, List, [], ◌∷◌, map, length, Option, Some, None, refl, sym, ◌∙◌, ap, subst, if◌then◌else◌}
+use Rattle.std.proofs.Common.{◌≡◌, ℕ, ◌+◌, ◌<◌, ◌^◌, false, ◌==◌, List, [], ◌∷◌, map, length, Option, Some, None, refl, sym, ◌∙◌, ap, subst, inl, if◌then◌else◌}
 use Rattle.std.specs.Prelude.{is_some, option_map, IfSome}
 use Rattle.std.specs.List.{list_any}
 use Rattle.model.specs.Logs.{Output}
 use Rattle.model.specs.Logs.Act.{ToUp}
 use Rattle.model.specs.Logs.Output.{Does as Puts}
-use Rattle.model.specs.Openings.{Opened, exchanges, given, last_stream}
-use Rattle.model.proofs.ExchangeLaws.{none_kept}
+use Rattle.model.specs.Openings.{Opened, exchanges, given, route_of, last_stream}
 use Rattle.model.specs.Setup.{Setup}
 use Rattle.model.specs.Tapes.{put}
 use Rattle.conduct.specs.Book.{Book, Desk, desk_after}
@@ -14,20 +13,20 @@ use Rattle.receiving.specs.State as receiving
 use Rattle.judgement.specs.Inbound.{book_of}
 use Rattle.judgement.proofs.SendingEvents.{puts_lead, did_desk}
 use Rattle.serving.specs.State as serving
-use Rattle.serving.specs.State.{Live, live_of, find}
+use Rattle.serving.specs.Lines.{Line, line_of, find}
 use Rattle.serving.specs.State.Due.{Nothing, ToSend}
 use Rattle.serving.specs.Rule.{is_done}
 use Rattle.serving.proofs.Lists.{found_key, find_map}
-use Rattle.model.proofs.AloneLaws.{none_begins, newest_is}
+use Rattle.model.proofs.AloneLaws.{none_begins}
 use Rattle.serving.proofs.Standing as standing
-use Rattle.serving.proofs.Standing.{IsDue}
+use Rattle.serving.proofs.Standing.{IsSending, IsDue}
 use Rattle.model.proofs.AloneLaws.{same_exchanges}
 use Rattle.upstreams.specs.Kept as upstreams
 use Rattle.upstreams.specs.Connections.{Connection, number_of, lives, put_at, HasRoom}
 use Rattle.marks_kept.specs.Sides.{Side, change, putting}
 use Rattle.marks_kept.specs.Sides.{find as find_side}
 use Rattle.marks_kept.proofs.Rising.{change_none}
-use Rattle.policy.specs.Moves.{Deed, Move, conduct_of, told_in}
+use Rattle.policy.specs.Moves.{Deed, Move, conduct_of, told_in, sent_or_used}
 use Rattle.policy.specs.Moves.Deed.{Acts}
 use Rattle.policy.specs.Moves.Move.{Does}
 use Rattle.policy.specs.State.{State, tape_of}
@@ -35,15 +34,14 @@ use Rattle.policy.specs.Rule.{rooms_in}
 use Rattle.policy.specs.Steps.{told_by, told_behind, next, MayGoOn}
 use Rattle.policy.proofs.Going.{may_act}
 use Rattle.policy.proofs.Stepping.{one_more}
-use Rattle.relay.specs.View.{View, Pending, square, Keeps, AreMarked, AreSo, Leads}
+use Rattle.relay.specs.View.{View, Pending, square, newest_in, Keeps, AreMarked, AreSo, Leads}
 use Rattle.relay.specs.Bringing.{OwnSegment, PerformsOwn}
-use Rattle.relay.proofs.Connected.{alone, its_side, elsewhere}
+use Rattle.relay.proofs.Connected.{its_side, newest_is}
 use Rattle.relay.proofs.Lives.{lives_same, kept_open}
 use Rattle.relay.proofs.Marking.{rooms_next, marked_put, marked_put_beside}
 use Rattle.relay.proofs.Staying.{so_stays, heard_stays, heard_of_changed, rows_kept}
 use Rattle.steps.specs.Closings.{told_but, NoneDoneBut}
-use Rattle.relay.proofs.Sound as sound
-use Rattle.relay.proofs.Where.{own, own_led, right_here, stands_here}
+use Rattle.relay.proofs.Where.{own, right_here, stands_here}
 
 module _ (setup : Setup) (kept : View) (fresh back k : ℕ) (text : List ℕ) where
   -- what is pending before and behind it
@@ -63,26 +61,21 @@ module _ (setup : Setup) (kept : View) (fresh back k : ℕ) (text : List ℕ) wh
     stand : standing.Stands (own setup run s leads.stands leads.so) (tape_of run) s.requests
     stand = stands_here setup run s leads.stands leads.so
 
-    due_there : (l : Live) × (live_of k s.requests.live ≡ Some l) × (l.stream ≡ last_stream (tape_of run))
-    due_there = subst (IsDue (own setup run s leads.stands leads.so) (tape_of run) s.requests) due_is stand.due
+    pub due_there : IsSending (tape_of run) s.requests.live k
+    due_there = subst (IsDue (own setup run s leads.stands leads.so) (tape_of run) s.requests.live) due_is stand.due
 
-    -- its connection is open
-    pub live_there : (l : Live) × (live_of k s.requests.live ≡ Some l)
-    live_there = (due_there.0, due_there.1)
-
-    -- and given to the stream of the last frame
+    -- its connection is given to the stream of the last frame
     its : given k (exchanges (tape_of run)) ≡ last_stream (tape_of run)
-    its =
-        let o = sound.given_to (own setup run s leads.stands leads.so) run s (own_led setup run s leads.stands leads.so) k due_there.0 due_there.1 in
-        ap (λ (x : Opened). x.stream) (newest_is (tape_of run) (none_kept (own setup run s leads.stands leads.so) (tape_of run) stand.off stand.in_time) stand.numbered k o.0 o.1 o.2) ∙ o.3 ∙ due_there.2
+    its = (stand.keeps.are_so k due_there.line due_there.found).stream ∙ due_there.stream
 
     its_book : given k s.desk.book.given ≡ s.desk.book.last
     its_book =
         let right = right_here setup run s leads.stands leads.so in
         ap (λ (os : List Opened). given k os) right.given ∙ its ∙ sym right.last
 
-    pub open_there : (c : Connection) × (find number_of k kept.upstreams.live ≡ Some c) × (c.live ≡ live_there.0)
-    open_there = kept_open k kept.upstreams.live live_there.0 (sym (ap (λ (r : serving.State). live_of k r.live) leads.keeps.requests) ∙ live_there.1)
+    -- and open
+    pub open_there : (c : Connection) × (find number_of k kept.upstreams.live ≡ Some c) × (c.live ≡ due_there.line)
+    open_there = kept_open k kept.upstreams.live due_there.line (sym (ap (λ (r : serving.State). line_of k r.live) leads.keeps.requests) ∙ due_there.found)
 
     abbrev connection : Connection
     connection = open_there.0
@@ -95,13 +88,16 @@ module _ (setup : Setup) (kept : View) (fresh back k : ℕ) (text : List ℕ) wh
     sent_view = record kept { upstreams = record kept.upstreams { live = map (put_at k (length text)) kept.upstreams.live }; marks = change stream (putting (length text)) kept.marks }
 
     desk : desk_after setup s.desk (conduct_of deed) ≡ s.desk
-    desk = did_desk setup false s.desk (ToUp k text) s.desk.book [] (puts_lead setup s.desk.book k text (rows_kept setup run s leads.stands) (none_begins (given k s.desk.book.given) s.desk.book.last text its_book))
+    desk =
+        did_desk setup false s.desk (ToUp k text) _ [] (puts_lead setup s.desk.book k text (rows_kept setup run s leads.stands))
+        ∙ ap (λ (os : List Opened). record { book = record s.desk.book { given = os }; queue = s.desk.queue })
+        (ap (λ b. if b then record { k = k; route = route_of k s.desk.book.given; stream = s.desk.book.last } ∷ s.desk.book.given else s.desk.book.given) (none_begins (given k s.desk.book.given) s.desk.book.last text its_book))
 
     may : MayGoOn setup s (Does deed)
     may = (
       ap (λ (d : Desk). d.book.ends) desk ∙ leads.stands.goes_on,
       may_act setup (told_behind setup s deed) s (ToUp k text) (ap (λ (b : Book). b.closed) leads.keeps.book)
-          (record { nothing = leads.keeps.owed; due = due_is; window = record { opened = ap (λ (o : Option Live). is_some o) live_there.1; its = its_book; in_effect = λ streaming. leads.in_effect } }),
+          (inl (record { nothing = leads.keeps.owed; due = due_is; window = record { opened = ap (λ (o : Option Line). is_some o) due_there.found; its = its_book; in_effect = λ streaming. leads.in_effect } })),
     )
 
     abbrev then_state : State
@@ -113,22 +109,35 @@ module _ (setup : Setup) (kept : View) (fresh back k : ℕ) (text : List ℕ) wh
     requests_then : then_state.requests ≡ upstreams.with_due sent_view.upstreams Nothing
     requests_then =
         ap (λ (r : serving.State). serving.after setup (told_in (told_behind setup s deed)) r (serving.Move.Acts (ToUp k text))) leads.keeps.requests
-        ∙ ap (λ (ls : List Live). record { held = kept.upstreams.held; live = ls; due = Nothing; count = kept.upstreams.count }) (sym (lives_same (put_at k (length text)) (λ c. refl) kept.upstreams.live))
+        ∙ ap (λ (ls : List Line). record { held = kept.upstreams.held; live = ls; due = Nothing; count = kept.upstreams.count }) (sym (lives_same (put_at k (length text)) (λ c. refl) kept.upstreams.live))
 
     -- what is kept of DATA that waits
     abbrev rooms : receiving.State
     rooms = rooms_in (told_by s) s
 
-    marked_by : (o : Option Side) → find_side stream kept.marks ≡ o → AreMarked setup.passing (change stream (putting (length text)) kept.marks) (receiving.with_act rooms (ToUp k text))
-    marked_by (Some side) found =
-        marked_put setup.passing kept.marks rooms leads.marked k stream text side found (its_side setup run kept due_before s leads k connection open_there.1 side found).0
-        (alone setup run kept due_before s leads k connection open_there.1)
-    marked_by None none =
-        subst (λ (sides : List Side). AreMarked setup.passing sides (receiving.with_act rooms (ToUp k text))) (sym (change_none stream (putting (length text)) kept.marks none))
-        (marked_put_beside setup.passing kept.marks rooms leads.marked k text (elsewhere setup run kept due_before s leads k connection open_there.1 none))
+    -- of the stream that the connection was given to last
+    newest : newest_in s k ≡ stream
+    newest = newest_is setup run kept due_before s leads k connection open_there.1
 
-    marked_then : AreMarked setup.passing sent_view.marks (rooms_in (told_by then_state) then_state)
-    marked_then = subst (AreMarked setup.passing sent_view.marks) (sym (rooms_next setup run s leads.stands leads.so deed may so_then)) (marked_by (find_side stream kept.marks) refl)
+    marked_by : (o : Option Side) → find_side stream kept.marks ≡ o → AreMarked setup.passing (newest_in s) (change stream (putting (length text)) kept.marks) (receiving.with_act rooms (ToUp k text))
+    marked_by (Some side) found =
+        let number : side.k ≡ k = (its_side setup run kept due_before s leads k connection open_there.1 side found).0 in
+        marked_put setup.passing (newest_in s) kept.marks rooms leads.marked k stream text side found number (ap (newest_in s) number ∙ newest)
+    marked_by None none =
+        subst (λ (sides : List Side). AreMarked setup.passing (newest_in s) sides (receiving.with_act rooms (ToUp k text))) (sym (change_none stream (putting (length text)) kept.marks none))
+        (marked_put_beside setup.passing (newest_in s) kept.marks rooms leads.marked k text
+        (λ side there. absurd (let no : ◌≡◌ {A = Option Side} None (Some side) = sym none ∙ ap (λ n. find_side n kept.marks) (sym newest) ∙ there in let clash : ◌≡◌ {A = Option Side} None (Some side) = no in cc)))
+
+    marked_then : AreMarked setup.passing (newest_in then_state) sent_view.marks (rooms_in (told_by then_state) then_state)
+    marked_then =
+        subst (λ (os : List Opened). AreMarked setup.passing (λ j. given j os) sent_view.marks (rooms_in (told_by then_state) then_state)) (sym (ap (λ (d : Desk). d.book.given) desk))
+        (subst (AreMarked setup.passing (newest_in s) sent_view.marks)
+        (sym (rooms_next setup run s leads.stands leads.so deed may so_then
+        ∙ ap (λ b. receiving.after setup.passing rooms (sent_or_used b k text)) (none_begins (given k s.desk.book.given) s.desk.book.last text its_book)))
+        (marked_by (find_side stream kept.marks) refl))
+
+    windows_then : then_state.windows ≡ receiving.kept_of (receiving.with_act rooms (ToUp k text))
+    windows_then = ap (λ b. receiving.kept_of (receiving.after setup.passing rooms (sent_or_used b k text))) (none_begins (given k s.desk.book.given) s.desk.book.last text its_book)
 
     -- its side counts what its connection does
     pub side_room : (count : ℕ) → HasRoom count (find number_of k kept.upstreams.live) → IfSome (find_side stream kept.marks) (λ side. side.out + count < 2 ^ 64)
@@ -136,15 +145,16 @@ module _ (setup : Setup) (kept : View) (fresh back k : ℕ) (text : List ℕ) wh
       where
         by : (o : Option Side) → find_side stream kept.marks ≡ o → IfSome o (λ side. side.out + count < 2 ^ 64)
         by None none = tt
-        by (Some side) found = subst (λ n. n + count < 2 ^ 64) (sym (its_side setup run kept due_before s leads k connection open_there.1 side found).1) (subst (HasRoom count) open_there.1 room)
+        by (Some side) found = subst (λ n. n + count < 2 ^ 64) (sym (its_side setup run kept due_before s leads k connection open_there.1 side found).2) (subst (HasRoom count) open_there.1 room)
 
     -- how much was put out for each connection, and how much of it was taken
     counted_one : (j : ℕ) (x : Connection) → find number_of j kept.upstreams.live ≡ Some x → (then_state.windows.out j ≡ (put_at k (length text) x).out) × (then_state.windows.took j ≡ (put_at k (length text) x).took)
     counted_one j x is =
         let was = leads.keeps.counted j x is in (
-          ap (λ n. if n == k then s.windows.out j + length text else s.windows.out j) (sym (found_key number_of j kept.upstreams.live x is))
+          ap (λ (w : receiving.Kept). w.out j) windows_then
+              ∙ ap (λ n. if n == k then s.windows.out j + length text else s.windows.out j) (sym (found_key number_of j kept.upstreams.live x is))
               ∙ ap (λ n. if x.live.k == k then n + length text else n) was.0,
-          was.1,
+          ap (λ (w : receiving.Kept). w.took j) windows_then ∙ was.1,
         )
 
     counted_then : (j : ℕ) (c : Connection) → find number_of j sent_view.upstreams.live ≡ Some c → (then_state.windows.out j ≡ c.out) × (then_state.windows.took j ≡ c.took)
@@ -167,7 +177,11 @@ module _ (setup : Setup) (kept : View) (fresh back k : ℕ) (text : List ℕ) wh
       decoding = leads.keeps.decoding;
       encoding = leads.keeps.encoding;
       read = leads.keeps.read;
-      credited = record { fresh = leads.keeps.credited.fresh; shared = leads.keeps.credited.shared; own = leads.keeps.credited.own };
+      credited = record {
+        fresh = ap (λ (w : receiving.Kept). w.count) windows_then ∙ leads.keeps.credited.fresh;
+        shared = ap (λ (w : receiving.Kept). w.debt) windows_then ∙ leads.keeps.credited.shared;
+        own = λ id goes. ap (λ (w : receiving.Kept). (w.row id).debt) windows_then ∙ leads.keeps.credited.own id goes;
+      };
       counted = counted_then;
     }
 
@@ -216,4 +230,4 @@ module _ (kept : View) (k stream count : ℕ) (text : List ℕ) (behind : upstre
 
   -- No connection is done with that wasn't before.
   pub sends_but : (id : ℕ) → NoneDoneBut id kept → NoneDoneBut id (record kept { upstreams = behind; marks = sides })
-  sends_but id none = ap (λ (ls : List Live). list_any (is_done (told_but id kept)) ls) (ap (λ (u : upstreams.State). lives u.live) put_is ∙ lives_same (put_at k count) (λ c. refl) kept.upstreams.live) ∙ none
+  sends_but id none = ap (λ (ls : List Line). list_any (is_done (told_but id kept)) ls) (ap (λ (u : upstreams.State). lives u.live) put_is ∙ lives_same (put_at k count) (λ c. refl) kept.upstreams.live) ∙ none

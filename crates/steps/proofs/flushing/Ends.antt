@@ -18,7 +18,6 @@ use Rattle.receiving.specs.State as receiving
 use Rattle.tables.specs.State as tables
 use Rattle.header_blocks.specs.Encoding.{Encoding}
 use Rattle.streams_kept.specs.Asked.{has, is_active}
-use Rattle.judgement.specs.Sending.{early_reset}
 use Rattle.policy.specs.Moves.{Move}
 use Rattle.relay.specs.View.{View, waiting_for, Pending, square}
 use Rattle.policy.specs.State.{State, tape_of}
@@ -34,7 +33,7 @@ use Rattle.steps.proofs.Calming.{calm_ends}
 use Rattle.steps.proofs.Following.{then_follows}
 use Rattle.steps.specs.flushing.Changes.{part_gone, let_go, unless_active, reset_gone, ended, put_at_end}
 use Rattle.steps.proofs.flushing.Rows.{over_told, active_own, not_flip}
-use Rattle.steps.proofs.flushing.Placed.{book_at, back_on, back_if, owing}
+use Rattle.steps.proofs.flushing.Placed.{owing}
 
 -- what the gateway's end makes of an active stream
 by_flags : (r c e ends : Bool) → (r || c || e && false) ≡ false → (r || c || e && (ends || false)) ≡ (e && ends)

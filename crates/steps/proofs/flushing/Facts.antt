@@ -29,7 +29,7 @@ use Rattle.offering.specs.Outbox.{Outbox, Fits, can_go}
 use Rattle.offering.specs.Outbox.Outbox.{Before, Behind, Over}
 use Rattle.offering.specs.State as offering
 use Rattle.offering.specs.State.{Kept, Move, find, entry_of}
-use Rattle.offering.specs.State.Move.{Takes, Breaks, Notes, Hears, Fails, Goes, Sends, Acts}
+use Rattle.offering.specs.State.Move.{Takes, Breaks, Notes, Hears, Fails, Idles, Goes, Sends, Acts}
 use Rattle.offering.specs.Policy.{AreAllowed}
 use Rattle.offering.specs.Rule.{moves_of}
 use Rattle.offering.proofs.Offering.{Offering, IsHeld, IsKeptIf}
@@ -116,6 +116,7 @@ module _ (known : Known) (id : ℕ) where
   ended_by_item (Notes event ∷ ms) all = ended_by_item ms all.0
   ended_by_item (Hears event stream news ∷ ms) all = ended_by_item ms all.0
   ended_by_item (Fails event stream ∷ ms) all = ended_by_item ms all.0
+  ended_by_item (Idles event ∷ ms) all = ended_by_item ms all.0
   ended_by_item (Acts act ∷ ms) all = ended_by_item ms all.0
   ended_by_item (Goes noted item part over ∷ ms) all =
       sent_more (map entry_of ms) noted (λ own. by_one (completed (sent (map entry_of ms)) noted.frame) noted item all.2.1.brings) (ended_by_item ms all.0)
@@ -173,7 +174,7 @@ module _ (setup : Setup) (run : List policy.Move) (s : State) (stands : Stands s
   moves = moves_of (offers_of setup run)
 
   all : AreAllowed known moves × Placed known (map entry_of moves) (offering.state_of moves)
-  all = placed known (offers_of setup run) (offers_may setup run stands.allowed) (offers_right known run led.knows stands.allowed) (offers_told known run led.answered)
+  all = placed known (offers_of setup run) (offers_may setup run stands.allowed) (offers_right known run led.knows stands.allowed) (offers_told known run led.knows led.answered)
 
   tape_is : map entry_of moves ≡ tape_of run
   tape_is = offers_tape setup run

@@ -32,8 +32,8 @@ use Rattle.relay.proofs.Performing.{tape_behind, put_behind}
 use Rattle.relay.proofs.Bringing.{own_behind}
 use Rattle.relay.proofs.Staying.{so_stays, heard_stays}
 use Rattle.relay.proofs.Marking.{rooms_next}
-use Rattle.steps.proofs.flushing.Placed.{state_at, owing, back_if, At, at_led, state_is}
-use Rattle.serving.specs.State.{find}
+use Rattle.steps.proofs.flushing.Placed.{state_at, owing, back_if, newest_of, At, at_led, state_is}
+use Rattle.serving.specs.Lines.{find}
 
 -- Moves lead on from one to the other, nothing comes in with them, and they put this out.
 pub record Path (setup : Setup) (run : List Move) (u : View) (owed : List Frame) (begun : Option Partial) (outputs : List Output) (v : View) (owed' : List Frame) (begun' : Option Partial) (put_out : List Output) (given : List Opened) (rest : tables.State) (windows windows' : receiving.Kept) : Type 0 where
@@ -69,7 +69,7 @@ module _ (setup : Setup) (given : List Opened) (rest : tables.State) where
     counts_same false = (refl, refl)
 
     one_move : (d : Deed) (may : MayGoOn setup s (Does d)) → next setup s (Does d) ≡ state_at v owed' begun' given rest windows_now → (so : AreSo setup (Does d ∷ run)) → AreHeard setup (Does d ∷ run) u.upstreams.live
-        → AreMarked setup.passing (unless_over over id u.marks) (receiving.after setup.passing (rooms_in (told_by s) s) (window_of (sight_in (told_by s)) (sight_in (told_behind setup s d)) d))
+        → AreMarked setup.passing (newest_of given) (unless_over over id u.marks) (receiving.after setup.passing (rooms_in (told_by s) s) (window_of (sight_in (told_by s)) (sight_in (told_behind setup s d)) d))
         → AreOwn (entry_of d ∷ []) → Path setup run u owed begun outputs v owed' begun' (put_entry outputs (entry_of d)) given rest windows windows_now
     one_move d may leads so heard marked own = record {
       moves = Does d ∷ [];
@@ -86,9 +86,9 @@ module _ (setup : Setup) (given : List Opened) (rest : tables.State) where
               ap (λ (f : ℕ → ℕ). f k) same.1 ∙ was.1,
             );
         marked =
-            subst (λ (ms : List Side). AreMarked setup.passing ms (rooms_in (told_by (state_at v owed' begun' given rest windows_now)) (state_at v owed' begun' given rest windows_now))) marks_are
-            (subst (λ (x : State). AreMarked setup.passing (unless_over over id u.marks) (rooms_in (told_by x) x)) leads
-            (subst (AreMarked setup.passing (unless_over over id u.marks)) (sym (rooms_next setup run s at.stands at.so d may so)) marked));
+            subst (λ (ms : List Side). AreMarked setup.passing (newest_of given) ms (rooms_in (told_by (state_at v owed' begun' given rest windows_now)) (state_at v owed' begun' given rest windows_now))) marks_are
+            (subst (λ (x : State). AreMarked setup.passing (newest_of given) (unless_over over id u.marks) (rooms_in (told_by x) x)) leads
+            (subst (AreMarked setup.passing (newest_of given) (unless_over over id u.marks)) (sym (rooms_next setup run s at.stands at.so d may so)) marked));
       };
       own = own;
       puts = refl;
@@ -96,14 +96,14 @@ module _ (setup : Setup) (given : List Opened) (rest : tables.State) where
 
     -- a frame that brings no stream an item
     pub sends_path : (noted : Noted) (table : Table) → Fits noted.frame → MayGoOn setup s (Does (Sends noted table)) → next setup s (Does (Sends noted table)) ≡ state_at v owed' begun' given rest windows_now
-        → AreMarked setup.passing (unless_over over id u.marks) (receiving.after setup.passing (rooms_in (told_by s) s) (window_of (sight_in (told_by s)) (sight_in (told_behind setup s (Sends noted table))) (Sends noted table)))
+        → AreMarked setup.passing (newest_of given) (unless_over over id u.marks) (receiving.after setup.passing (rooms_in (told_by s) s) (window_of (sight_in (told_by s)) (sight_in (told_behind setup s (Sends noted table))) (Sends noted table)))
         → Path setup run u owed begun outputs v owed' begun' (put outputs (ToClient (spell noted.frame))) given rest windows windows_now
     sends_path noted table fits may leads marked =
         one_move (Sends noted table) may leads (so_stays setup run (Sends noted table) tt at.so) (heard_stays setup run s at.stands at.so u.upstreams.live refl (Sends noted table) tt at.heard) marked (fits, tt)
 
     -- one with which a part is complete
     pub part_path : (noted : Noted) (item : Item) (part : Part) (table : Table) → Fits noted.frame → MayGoOn setup s (Does (Goes noted item part table)) → next setup s (Does (Goes noted item part table)) ≡ state_at v owed' begun' given rest windows_now
-        → AreMarked setup.passing (unless_over over id u.marks) (receiving.after setup.passing (rooms_in (told_by s) s) (window_of (sight_in (told_by s)) (sight_in (told_behind setup s (Goes noted item part table))) (Goes noted item part table)))
+        → AreMarked setup.passing (newest_of given) (unless_over over id u.marks) (receiving.after setup.passing (rooms_in (told_by s) s) (window_of (sight_in (told_by s)) (sight_in (told_behind setup s (Goes noted item part table))) (Goes noted item part table)))
         → Path setup run u owed begun outputs v owed' begun' (put outputs (ToClient (spell noted.frame))) given rest windows windows_now
     part_path noted item part table fits may leads marked =
         one_move (Goes noted item part table) may leads (so_stays setup run (Goes noted item part table) tt at.so) (heard_stays setup run s at.stands at.so u.upstreams.live refl (Goes noted item part table) tt at.heard) marked (fits, tt)

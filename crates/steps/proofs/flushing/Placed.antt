@@ -20,7 +20,8 @@ use Rattle.offering.specs.State as offering
 use Rattle.receiving.specs.State as receiving
 use Rattle.receiving.specs.Rule.{is_over_by}
 use Rattle.serving.specs.State as serving
-use Rattle.serving.specs.State.{Held, find}
+use Rattle.serving.specs.Lines.{find}
+use Rattle.serving.specs.State.{Held}
 use Rattle.serving.specs.State.Due.{Nothing}
 use Rattle.serving.specs.Told.{Told}
 use Rattle.tables.specs.State as tables
@@ -75,6 +76,10 @@ back_if over id u windows = if over then back_on (waiting_for id u) windows else
 abbrev pub AreCounted : View → receiving.Kept → Type 0
 AreCounted u windows = (k : ℕ) (c : Connection) → find number_of k u.upstreams.live ≡ Some c → (windows.out k ≡ c.out) × (windows.took k ≡ c.took)
 
+-- the streams that connections were given to last
+abbrev pub newest_of : List Opened → ℕ → ℕ
+newest_of os k = Rattle.model.specs.Openings.given k os
+
 -- Moves led to it.
 pub record At (setup : Setup) (run : List Move) (u : View) (owed : List Frame) (begun : Option Partial) (given : List Opened) (rest : tables.State) (windows : receiving.Kept) : Type 0 where
   pub stands : Stands setup run (state_at u owed begun given rest windows)
@@ -82,7 +87,7 @@ pub record At (setup : Setup) (run : List Move) (u : View) (owed : List Frame) (
   pub heard : AreHeard setup run u.upstreams.live
   pub credited : IsCredited (record square { shared = windows.debt }) u.inbound windows
   pub counted : AreCounted u windows
-  pub marked : AreMarked setup.passing u.marks (rooms_in (told_by (state_at u owed begun given rest windows)) (state_at u owed begun given rest windows))
+  pub marked : AreMarked setup.passing (newest_of given) u.marks (rooms_in (told_by (state_at u owed begun given rest windows)) (state_at u owed begun given rest windows))
 
 -- a state by its parts
 by_parts : (s : State) (d : Desk) (o : offering.State) (r : serving.State) (t : tables.State) → s.desk ≡ d → s.offers ≡ o → s.requests ≡ r → s.tables ≡ t → s ≡ record { desk = d; offers = o; requests = r; tables = t; windows = s.windows }
@@ -110,7 +115,7 @@ led_at setup run u owed back s leads = record {
   heard = leads.heard;
   credited = record { fresh = leads.keeps.credited.fresh; shared = refl; own = leads.keeps.credited.own };
   counted = leads.keeps.counted;
-  marked = subst (λ (x : State). AreMarked setup.passing u.marks (rooms_in (told_by x) x)) (state_is u owed back s leads.keeps) leads.marked;
+  marked = subst (λ (x : State). AreMarked setup.passing (newest_of s.desk.book.given) u.marks (rooms_in (told_by x) x)) (state_is u owed back s leads.keeps) leads.marked;
 }
 
 pub at_led : (setup : Setup) (run : List Move) (u : View) (owed : List Frame) (given : List Opened) (rest : tables.State) (windows : receiving.Kept) → At setup run u owed None given rest windows → Leads setup run u (owing owed windows.debt) (state_at u owed None given rest windows)
@@ -169,11 +174,11 @@ module _ (setup : Setup) (u : View) (owed : List Frame) (begun : Option Partial)
   over_is over = is_over_by before (sight_in behind) noted.frame.id ≡ over
 
   -- octets that waited go back with a stream that is over
-  windows_then : (over : Bool) → over_is over → (noted.frame.kind == window_update_kind) ≡ false → (run : List Move) → Stands setup run s → AreSo setup run → AreMarked setup.passing u.marks rooms
+  windows_then : (over : Bool) → over_is over → (noted.frame.kind == window_update_kind) ≡ false → (run : List Move) → Stands setup run s → AreSo setup run → AreMarked setup.passing (newest_of given) u.marks rooms
       → receiving.kept_of (receiving.after setup.passing rooms (given_or_sent (noted.frame.kind == window_update_kind) before (sight_in behind) noted)) ≡ back_if over noted.frame.id u windows
   windows_then over is no_update run stands so marked =
       ap (λ b. receiving.kept_of (receiving.after setup.passing rooms (given_or_sent b before (sight_in behind) noted))) no_update
-      ∙ ap (λ n. record windows { debt = n }) (telling.drops u.marks rooms marked.stand (is_over_by before (sight_in behind) noted.frame.id) noted.frame.id was_active)
+      ∙ ap (λ n. record windows { debt = n }) (telling.drops (newest_of given) u.marks rooms marked.stand (is_over_by before (sight_in behind) noted.frame.id) noted.frame.id was_active)
       ∙ ap (λ b. record windows { debt = windows.debt + dropped_of b noted.frame.id u.marks }) is
       ∙ by over
     where
@@ -185,22 +190,22 @@ module _ (setup : Setup) (u : View) (owed : List Frame) (begun : Option Partial)
       by false = ap (λ n. record windows { debt = n }) (add-zero windows.debt)
 
   -- what is kept of DATA stands for that
-  pub marked_then : (over : Bool) → over_is over → (noted.frame.kind == window_update_kind) ≡ false → AreMarked setup.passing u.marks rooms
-      → AreMarked setup.passing (unless_over over noted.frame.id u.marks) (receiving.after setup.passing rooms (given_or_sent (noted.frame.kind == window_update_kind) before (sight_in behind) noted))
+  pub marked_then : (over : Bool) → over_is over → (noted.frame.kind == window_update_kind) ≡ false → AreMarked setup.passing (newest_of given) u.marks rooms
+      → AreMarked setup.passing (newest_of given) (unless_over over noted.frame.id u.marks) (receiving.after setup.passing rooms (given_or_sent (noted.frame.kind == window_update_kind) before (sight_in behind) noted))
   marked_then over is no_update marked =
-      subst (λ b. AreMarked setup.passing (unless_over over noted.frame.id u.marks) (receiving.after setup.passing rooms (given_or_sent b before (sight_in behind) noted))) (sym no_update)
-      (subst (λ b. AreMarked setup.passing (unless_over over noted.frame.id u.marks) (receiving.with_sent rooms noted b)) (sym is) (marked_sent setup.passing u.marks rooms marked noted over))
+      subst (λ b. AreMarked setup.passing (newest_of given) (unless_over over noted.frame.id u.marks) (receiving.after setup.passing rooms (given_or_sent b before (sight_in behind) noted))) (sym no_update)
+      (subst (λ b. AreMarked setup.passing (newest_of given) (unless_over over noted.frame.id u.marks) (receiving.with_sent rooms noted b)) (sym is) (marked_sent setup.passing (newest_of given) u.marks rooms marked noted over))
 
-  module _ (leads : LeadsTo setup false (book_at u begun given) (Sent noted) new called) (mild : is_calming noted.frame ≡ false) (no_update : (noted.frame.kind == window_update_kind) ≡ false) (over : Bool) (gone : over_is over) (run : List Move) (stands : Stands setup run s) (so : AreSo setup run) (marked : AreMarked setup.passing u.marks rooms) (held : List Held) (held_is : serving.kept (told_in behind) u.upstreams.held ≡ held) where
+  module _ (leads : LeadsTo setup false (book_at u begun given) (Sent noted) new called) (mild : is_calming noted.frame ≡ false) (no_update : (noted.frame.kind == window_update_kind) ≡ false) (over : Bool) (gone : over_is over) (run : List Move) (stands : Stands setup run s) (so : AreSo setup run) (marked : AreMarked setup.passing (newest_of given) u.marks rooms) (held : List Held) (held_is : serving.kept (told_in behind) u.upstreams.held ≡ held) where
     desk_is : (d : Deed) → conduct_of d ≡ record { entry = Sent noted; fails = false } → desk_after setup s.desk (conduct_of d) ≡ desk_then
     desk_is d same = ap (desk_after setup s.desk) same ∙ sent_desk setup false s.desk noted new called (ap (λ b. b && true) mild) leads
 
     -- what is kept of DATA stands for the windows behind either
     pub marked_behind : (d : Deed) → conduct_of d ≡ record { entry = Sent noted; fails = false } → window_of before (sight_in behind) d ≡ given_or_sent (noted.frame.kind == window_update_kind) before (sight_in behind) noted
-        → AreMarked setup.passing (unless_over over noted.frame.id u.marks) (receiving.after setup.passing rooms (window_of before (sight_in (told_behind setup s d)) d))
+        → AreMarked setup.passing (newest_of given) (unless_over over noted.frame.id u.marks) (receiving.after setup.passing rooms (window_of before (sight_in (told_behind setup s d)) d))
     marked_behind d same as_sent =
-        subst (λ (x : Desk). AreMarked setup.passing (unless_over over noted.frame.id u.marks) (receiving.after setup.passing rooms (window_of before (sight_in (summary_in x.book)) d))) (sym (desk_is d same))
-        (subst (λ (m : receiving.Move). AreMarked setup.passing (unless_over over noted.frame.id u.marks) (receiving.after setup.passing rooms m)) (sym as_sent) (marked_then over gone no_update marked))
+        subst (λ (x : Desk). AreMarked setup.passing (newest_of given) (unless_over over noted.frame.id u.marks) (receiving.after setup.passing rooms (window_of before (sight_in (summary_in x.book)) d))) (sym (desk_is d same))
+        (subst (λ (m : receiving.Move). AreMarked setup.passing (newest_of given) (unless_over over noted.frame.id u.marks) (receiving.after setup.passing rooms m)) (sym as_sent) (marked_then over gone no_update marked))
 
     -- The state behind a frame that brings no stream an item.
     pub behind_sent : next setup s (Does (Sends noted table)) ≡ record {

@@ -5,7 +5,7 @@ use Rattle.std.specs.List.{list_any}
 use Rattle.std.proofs.lemmas.Bool.{cases_Bool, cases_eq, eq-eqb, and_parts, eqb-true, ne_eqb}
 use Rattle.model.specs.Messages.{Item}
 use Rattle.model.specs.Frames.{Frame, Fits, spell, ends_headers, window_update_kind, ends_stream, content}
-use Rattle.model.specs.ErrorClause.{rst_stream, is_passing}
+use Rattle.model.specs.ErrorClause.{is_passing}
 use Rattle.model.specs.StreamStates.{most_streams}
 use Rattle.model.specs.Admission.{high_water}
 use Rattle.model.specs.Logs.{Output}
@@ -31,6 +31,7 @@ use Rattle.offering.specs.Outbox.{Part}
 use Rattle.offering.specs.State as offering
 use Rattle.receiving.specs.State as receiving
 use Rattle.serving.specs.Told.{Told}
+use Rattle.serving.specs.Lines.{without}
 use Rattle.serving.specs.State as serving
 use Rattle.serving.specs.State.{Held, id_of}
 use Rattle.tables.specs.Rule.{MayGive, IsGiven}
@@ -40,7 +41,7 @@ use Rattle.streams_kept.specs.Asked.{has, is_active, changed}
 use Rattle.judgement.specs.Inbound.{Inbound}
 use Rattle.judgement.specs.Sending.{LeadsTo}
 use Rattle.judgement.proofs.BlockRows.{active_closed}
-use Rattle.judgement.proofs.SendingBooks.{fragment_leads, reset_leads}
+use Rattle.judgement.proofs.SendingBooks.{fragment_leads}
 use Rattle.offers.specs.Asked.{windows_over}
 use Rattle.outputs.specs.Blocks.{IsFragment}
 use Rattle.outputs.proofs.Going as sending
@@ -51,7 +52,6 @@ use Rattle.policy.specs.Moves.Move.{Does}
 use Rattle.policy.specs.State.{State}
 use Rattle.policy.specs.Rule.{rooms_in}
 use Rattle.policy.specs.Steps.{told_by, told_behind, next, MayGoOn}
-use Rattle.policy.proofs.Going.{may_pay}
 use Rattle.offering.specs.Sight.{sight_in}
 use Rattle.marks_kept.specs.Sides.{unless_over}
 use Rattle.relay.specs.View.{View, Pending, square, GoBack, waiting_for, IsCredited, AreMarked}
@@ -61,9 +61,9 @@ use Rattle.relay.proofs.Kept.{AreServed, held_behind}
 use Rattle.relay.proofs.Passing.{part_goes_on, fragment_goes_on}
 use Rattle.relay.proofs.Staying.{rows_kept, all_held_served}
 use Rattle.conduct.proofs.Farewells.{passing_calmless}
-use Rattle.steps.specs.flushing.Changes.{part_gone, let_go, unless_active, reset_gone}
+use Rattle.steps.specs.flushing.Changes.{part_gone, let_go, unless_active}
 use Rattle.steps.proofs.flushing.Rows.{found_other, found_own, over_told, active_other, active_own, not_flip}
-use Rattle.steps.proofs.flushing.Placed.{book_at, state_at, back_on, back_if, At, held_same, marked_behind, behind_sent, behind_part}
+use Rattle.steps.proofs.flushing.Placed.{book_at, state_at, back_on, back_if, newest_of, At, held_same, marked_behind, behind_sent, behind_part}
 use Rattle.steps.proofs.flushing.Paths.{Path, sends_path, part_path}
 
 stays_active : (b : Bool) → (b && not b) ≡ false
@@ -291,8 +291,8 @@ module _ (setup : Setup) (run : List Move) (u : View) (begun : Option Partial) (
     pub whole_path : (outputs : List Output) → Path setup run u [] begun outputs (unless_active id gone) called None (put outputs (ToClient (spell noted.frame))) given rest windows (back_if (not (is_active gone.inbound.rows id)) id u windows)
     whole_path outputs = by (is_active gone.inbound.rows id) refl
       where
-        gone_held : is_active gone.inbound.rows id ≡ false → serving.kept told_then u.upstreams.held ≡ serving.without id_of id u.upstreams.held
-        gone_held is = held_behind told told_then id others_same u.upstreams.held served_here ∙ ap (λ b. if b && is_none (find gone.inbound.rows id).brief.cause then u.upstreams.held else serving.without id_of id u.upstreams.held) is
+        gone_held : is_active gone.inbound.rows id ≡ false → serving.kept told_then u.upstreams.held ≡ without id_of id u.upstreams.held
+        gone_held is = held_behind told told_then id others_same u.upstreams.held served_here ∙ ap (λ b. if b && is_none (find gone.inbound.rows id).brief.cause then u.upstreams.held else without id_of id u.upstreams.held) is
 
         step : (b : Bool) → is_active gone.inbound.rows id ≡ b → (held : List Held) → serving.kept told_then u.upstreams.held ≡ held
             → next setup state (Does (Goes noted item part table)) ≡ record (state_at gone called None given rest (back_if (not b) id u windows)) { offers = record { kept = offering.unless_over (not b) id (offering.change id (offering.gone part) u.offers.kept); last = id }; requests = upstreams.with_due (record u.upstreams { held = held }) serving.Due.Nothing }
@@ -302,7 +302,7 @@ module _ (setup : Setup) (run : List Move) (u : View) (begun : Option Partial) (
             ∙ ap (λ (e : Encoding). record (state_at gone called None given rest (back_if (not b) id u windows)) { offers = record { kept = offering.unless_over (not b) id (offering.change id (offering.gone part) u.offers.kept); last = id }; requests = upstreams.with_due (record u.upstreams { held = held }) serving.Due.Nothing; tables = record rest { decoding = u.inbound.table; lost = false; encoding = e } }) encoded
 
         marked_now : (b : Bool) → is_active gone.inbound.rows id ≡ b → (held : List Held) → serving.kept told_then u.upstreams.held ≡ held
-            → AreMarked setup.passing (unless_over (not b) id u.marks) (receiving.after setup.passing (rooms_in (told_by state) state) (window_of (sight_in (told_by state)) (sight_in (told_behind setup state (Goes noted item part table))) (Goes noted item part table)))
+            → AreMarked setup.passing (newest_of given) (unless_over (not b) id u.marks) (receiving.after setup.passing (rooms_in (told_by state) state) (window_of (sight_in (told_by state)) (sight_in (told_behind setup state (Goes noted item part table))) (Goes noted item part table)))
         marked_now b is held same =
             marked_behind setup u [] begun given rest windows noted table (book_at gone None given) called leads (passing_calmless noted goes.may.passing) no_update (not b) (over_then b is) run at.stands at.so at.marked held same (Goes noted item part table) refl refl
 
@@ -313,4 +313,4 @@ module _ (setup : Setup) (run : List Move) (u : View) (begun : Option Partial) (
             (marked_now true is u.upstreams.held (held_same told told_then (same_served is) u.upstreams.held served_here))
         by false is =
             part_path setup given rest windows run u [] begun at (let_go id gone) called None outputs refl true id refl credited_over noted item part table fits may_go
-            (step false is (serving.without id_of id u.upstreams.held) (gone_held is)) (marked_now false is (serving.without id_of id u.upstreams.held) (gone_held is))
+            (step false is (without id_of id u.upstreams.held) (gone_held is)) (marked_now false is (without id_of id u.upstreams.held) (gone_held is))

@@ -22,7 +22,8 @@ use Rattle.model.specs.Offers.{is_to_head}
 use Rattle.model.specs.Known.{Known}
 use Rattle.model.specs.Causes.{Cause}
 use Rattle.model.specs.Causes.Cause.{LargeFields, Tunnel, Expects, LargeBody, NoRoute, BadAnswer}
-use Rattle.model.specs.Courses.{items, is_final}
+use Rattle.model.specs.Courses.{items, is_final, upstream_of}
+use Rattle.model.specs.Openings.{exchange_on}
 use Rattle.conduct.specs.Rule.{known_of}
 use Rattle.conduct.proofs.Knowing.{known_so}
 use Rattle.offering.specs.Outbox.{Outbox, replied, Part, left, rest_of, offered_by, grown}
@@ -131,7 +132,7 @@ all_statuses known (x ∷ run) may right told =
     let s = offering.state_of (moves_of run) in
     all_behind HasStatuses (tt, tt) replied_statuses left_statuses s.kept x.move
     (leaves_news known (tape_of run) s (sight_of run) x.sight old.1.neighbours old.1.offering HasStatuses x.move new.0.2 may.1
-    (λ event stream news box is h p. offered_statuses h.read (grown box news) (shown_delivers known.setup.passing (heard_by h.o (Happened event ∷ tape_of run)) (ended_by h.o (Happened event ∷ tape_of run)) (is_to_head (items known stream (tape_of run))) (offered_by h.read (grown box news)) h.behind)))
+    (λ event stream news box is h p. offered_statuses h.read (grown box news) (shown_delivers known.setup.passing (heard_by (exchange_on (upstream_of event) (tape_of run)) (Happened event ∷ tape_of run)) (ended_by (exchange_on (upstream_of event) (tape_of run)) (Happened event ∷ tape_of run)) (is_to_head (items known stream (tape_of run))) (offered_by h.read (grown box news)) h.behind)))
     (all_statuses known run may.0 right.0 told.0)
 
 -- what holds of all holds of the one that is found
@@ -150,7 +151,7 @@ statuses_right setup run s stands so id k found =
     let knows = known_so setup (conducts run) in
     found_holds HasStatuses id s.offers.kept k
     (subst (λ (x : State). HoldsOfAll HasStatuses x.offers.kept) stands.is
-    (all_statuses known (offers_of setup run) (offers_may setup run stands.allowed) (offers_right known run knows stands.allowed) (offers_told known run (so known refl knows))))
+    (all_statuses known (offers_of setup run) (offers_may setup run stands.allowed) (offers_right known run knows stands.allowed) (offers_told known run knows (so known refl knows))))
     found
 
 -- ---- a section tells the status

@@ -5,12 +5,13 @@ use Rattle.model.specs.Logs.Output.{Does as Puts}
 use Rattle.model.specs.Logs.Act.{Close}
 use Rattle.model.specs.Setup.{Setup}
 use Rattle.model.specs.Tapes.{put}
-use Rattle.model.specs.Openings.{Opened}
+use Rattle.model.specs.Openings.{Opened, given}
 use Rattle.conduct.specs.Book.{Book, Desk, desk_after, summary_in}
 use Rattle.judgement.specs.Inbound.{book_of}
 use Rattle.judgement.proofs.SendingEvents.{closes_lead, did_desk}
 use Rattle.serving.specs.State as serving
-use Rattle.serving.specs.State.{Live, k_of, live_of, without, drop_from}
+use Rattle.serving.specs.Lines.{Line, without, k_of, line_of}
+use Rattle.serving.specs.State.{drop_from}
 use Rattle.serving.specs.Rule.{is_done, MayClose}
 use Rattle.upstreams.specs.Kept as upstreams
 use Rattle.upstreams.specs.Connections.{number_of, lives, AreBelow}
@@ -18,10 +19,11 @@ use Rattle.policy.specs.Moves.{Deed, Move, conduct_of, told_in}
 use Rattle.policy.specs.Moves.Deed.{Acts}
 use Rattle.policy.specs.Moves.Move.{Does}
 use Rattle.policy.specs.State.{State}
+use Rattle.policy.specs.Rule.{rooms_in}
 use Rattle.policy.specs.Steps.{told_by, told_behind, next, MayGoOn}
 use Rattle.policy.proofs.Going.{may_act}
 use Rattle.policy.proofs.Stepping.{one_more}
-use Rattle.relay.specs.View.{View, Keeps, AreMarked, Leads}
+use Rattle.relay.specs.View.{View, newest_in, Keeps, AreMarked, Leads}
 use Rattle.relay.specs.Rest.{told_view, back_of}
 use Rattle.relay.specs.Bringing.{PerformsOwn}
 use Rattle.relay.proofs.Lives.{IsDone, lives_closed}
@@ -53,8 +55,8 @@ module _ (setup : Setup) (kept : View) (back k : ℕ) (done_is : (top : ℕ) →
     may_close : MayClose (told_in (told_by s)) s.requests k
     may_close = record {
       nothing = ap (λ (r : serving.State). r.due) leads.keeps.requests;
-      live = done.connection.live;
-      found = ap (live_of k) open_ones ∙ found_live k kept.upstreams.live done.connection done.found;
+      line = done.connection.live;
+      found = ap (line_of k) open_ones ∙ found_live k kept.upstreams.live done.connection done.found;
       why = inl (ap (λ (b : Book). is_done (told_in (summary_in b)) done.connection.live) leads.keeps.book ∙ done.done);
     }
 
@@ -77,7 +79,7 @@ module _ (setup : Setup) (kept : View) (back k : ℕ) (done_is : (top : ℕ) →
     requests_kept : then_state.requests ≡ upstreams.with_due closed_view.upstreams serving.Due.Nothing
     requests_kept =
         ap (λ (r : serving.State). record { held = map (drop_from k) r.held; live = without k_of k r.live; due = r.due; count = r.count }) leads.keeps.requests
-        ∙ ap (λ (ls : List Live). record { held = map (drop_from k) kept.upstreams.held; live = ls; due = serving.Due.Nothing; count = kept.upstreams.count }) (sym (lives_closed k kept.upstreams.live))
+        ∙ ap (λ (ls : List Line). record { held = map (drop_from k) kept.upstreams.held; live = ls; due = serving.Due.Nothing; count = kept.upstreams.count }) (sym (lives_closed k kept.upstreams.live))
 
     keeps : Keeps closed_view (back_of back) then_state
     keeps = record {
@@ -98,7 +100,9 @@ module _ (setup : Setup) (kept : View) (back k : ℕ) (done_is : (top : ℕ) →
       so = so_stays setup run deed tt leads.so;
       heard = heard_of_fewer setup (Does deed ∷ run) kept.upstreams.live k (heard_stays setup run s leads.stands leads.so kept.upstreams.live open_ones deed tt leads.heard);
       keeps = keeps;
-      marked = subst (AreMarked setup.passing kept.marks) (sym (rooms_next setup run s leads.stands leads.so deed may (so_stays setup run deed tt leads.so))) leads.marked;
+      marked =
+          subst (λ (os : List Opened). AreMarked setup.passing (λ j. given j os) kept.marks (rooms_in (told_by then_state) then_state)) (sym (ap (λ (d : Desk). d.book.given) desk))
+          (subst (AreMarked setup.passing (newest_in s) kept.marks) (sym (rooms_next setup run s leads.stands leads.so deed may (so_stays setup run deed tt leads.so))) leads.marked);
       in_effect = tt;
     }
 

@@ -8,7 +8,7 @@ use Rattle.model.specs.Logs.Output.{ToClient}
 use Rattle.model.specs.Setup.{Setup}
 use Rattle.model.specs.Tapes.{put}
 use Rattle.model.specs.Tapes.Entry.{Sent}
-use Rattle.model.specs.Openings.{Opened}
+use Rattle.model.specs.Openings.{Opened, given}
 use Rattle.model.specs.Decoding.{Partial, joined}
 use Rattle.model.specs.Lifetimes.{may_open}
 use Rattle.conduct.specs.Judging.{completed_in}
@@ -22,7 +22,8 @@ use Rattle.receiving.specs.Rule.{OwesAll}
 use Rattle.receiving.specs.State as receiving
 use Rattle.receiving.specs.State.{kept_of, with_given}
 use Rattle.serving.specs.State as serving
-use Rattle.serving.specs.State.{Held, find}
+use Rattle.serving.specs.Lines.{find}
+use Rattle.serving.specs.State.{Held}
 use Rattle.tables.specs.State as tables
 use Rattle.judgement.specs.Inbound.{Inbound, book_of}
 use Rattle.judgement.specs.Sending.{LeadsTo}
@@ -37,7 +38,7 @@ use Rattle.policy.specs.Rule.{rooms_in}
 use Rattle.policy.specs.Steps.{told_by, told_behind, next, MayGoOn}
 use Rattle.policy.proofs.Going.{may_give}
 use Rattle.policy.proofs.Stepping.{one_more}
-use Rattle.relay.specs.View.{View, Pending, Keeps, AreMarked, IsInEffect, Leads, IsCredited}
+use Rattle.relay.specs.View.{View, Pending, Keeps, AreMarked, IsInEffect, Leads, IsCredited, newest_in}
 use Rattle.relay.specs.Bringing.{PerformsOwn}
 use Rattle.relay.proofs.Kept.{AreServed}
 use Rattle.relay.proofs.Marking.{rooms_next, marked_given}
@@ -49,6 +50,7 @@ pub record IsGivenBack (kept : View) (inbound : Inbound) (untaken : ℕ) (pendin
   pub book : Book
   pub leads_to : LeadsTo setup false s.desk.book (Sent (noted_of frame)) book []
   pub book_is : book ≡ book_of (record { given = book.given; untaken = untaken }) inbound
+  pub given_same : book.given ≡ s.desk.book.given
   pub served : (hs : List Held) → AreServed (told_in (told_by s)) hs → AreServed (told_in (summary_in book)) hs
   pub not_to_open : may_open (told_by s).opened frame.id ≡ false
   pub goes_on : must_end_in (told_by s) ≡ false
@@ -151,12 +153,13 @@ module _ (setup : Setup) (kept : View) (inbound : Inbound) (untaken : ℕ) (same
       counted = counted;
     }
 
-    marked : AreMarked setup.passing kept.marks (rooms_in (told_by then_state) then_state)
+    marked : AreMarked setup.passing (newest_in then_state) kept.marks (rooms_in (told_by then_state) then_state)
     marked =
-        subst (AreMarked setup.passing kept.marks)
+        subst (λ (os : List Opened). AreMarked setup.passing (λ j. given j os) kept.marks (rooms_in (told_by then_state) then_state)) (sym (ap (λ (d : Desk). d.book.given) desk ∙ is.given_same))
+        (subst (AreMarked setup.passing (newest_in s) kept.marks)
         (sym (rooms_next setup run s leads.stands leads.so deed may (so_stays setup run deed tt leads.so)
         ∙ ap (λ n. receiving.after setup.passing (rooms_in (told_by s) s) (given_or_sent (n == window_update_kind) (sight_in (told_by s)) (sight_in (told_behind setup s deed)) (noted_of frame))) kind))
-        (marked_given setup.passing kept.marks (rooms_in (told_by s) s) leads.marked (frame.id == 0) (noted_of frame))
+        (marked_given setup.passing (newest_in s) kept.marks (rooms_in (told_by s) s) leads.marked (frame.id == 0) (noted_of frame)))
 
     leads_on : Leads setup (Does deed ∷ run) given_view pending' then_state
     leads_on = record {

@@ -1,31 +1,24 @@
 -- The client's side, or an upstream's, took octets of those that were put out for it.
-use Rattle.std.proofs.Common.{◌≡◌, ◌≢◌, ℕ, ◌+◌, ◌-◌, ◌≤◌, true, false, ◌==◌, nat_le, List, [], ◌∷◌, Option, Some, None, refl, sym, ◌∙◌, ap, subst, if◌then◌else◌, inl, inr, arith}
-use Rattle.std.specs.Prelude.{option_map, is_some, IfSome}
-use Rattle.std.proofs.lemmas.Bool.{le-leb, and_from, eq-eqb}
-use Rattle.std.proofs.lemmas.Bool.Decides.{eqb_tells}
+use Rattle.std.proofs.Common.{◌≡◌, ℕ, ◌+◌, ◌-◌, ◌≤◌, true, false, nat_le, List, [], ◌∷◌, map, Option, Some, None, refl, sym, ◌∙◌, ap, subst, if◌then◌else◌}
+use Rattle.std.specs.Prelude.{option_map, IfSome}
+use Rattle.std.proofs.lemmas.Bool.{le-leb, eq-eqb}
 use Rattle.model.specs.Logs.{Output}
 use Rattle.model.specs.Logs.Event.{ClientTook, UpTook}
 use Rattle.model.specs.Setup.{Setup}
 use Rattle.model.specs.Tapes.Entry.{Happened}
-use Rattle.model.specs.Openings.{Opened}
-use Rattle.conduct.specs.Book.{Book, Desk, desk_after, summary_in}
-use Rattle.offering.specs.Sight.{sight_in}
+use Rattle.model.specs.Openings.{Opened, given}
+use Rattle.conduct.specs.Book.{Book, Desk, desk_after}
 use Rattle.judgement.specs.Inbound.{book_of}
-use Rattle.judgement.proofs.SendingEvents.{took_leads, heard_lead, happened_desk}
-use Rattle.receiving.specs.Marks.{Mark, released}
+use Rattle.judgement.proofs.SendingEvents.{took_leads, happened_desk}
+use Rattle.receiving.specs.Marks.{released}
 use Rattle.receiving.specs.Policy.{may_come}
-use Rattle.receiving.specs.State as receiving
-use Rattle.receiving.specs.State.{is_live}
 use Rattle.serving.specs.State as serving
-use Rattle.serving.specs.State.{Live, live_of, find}
+use Rattle.serving.specs.Lines.{find}
 use Rattle.serving.proofs.Lists.{found_key, find_map}
-use Rattle.upstreams.specs.Kept as upstreams
-use Rattle.upstreams.specs.Connections.{Connection, number_of, lives, taken_at}
-use Rattle.marks_kept.specs.Sides.{Side, taking, took_if, queue_if}
+use Rattle.upstreams.specs.Connections.{Connection, number_of, taken_at}
+use Rattle.marks_kept.specs.Sides.{MayTake, queue_of, released_behind, taken_of_all}
 use Rattle.marks_kept.specs.Sides.{find as find_side}
-use Rattle.marks_kept.specs.Standing.{NoneReached}
-use Rattle.marks_kept.proofs.Telling as telling
-use Rattle.marks_kept.proofs.Rising.{change_none}
+use Rattle.marks_kept.specs.declared.marks.Taken.{Taken}
 use Rattle.policy.specs.Moves.{Deed, Move, conduct_of}
 use Rattle.policy.specs.Moves.Deed.{Notes}
 use Rattle.policy.specs.Moves.Move.{Does}
@@ -34,17 +27,15 @@ use Rattle.policy.specs.Rule.{rooms_in}
 use Rattle.policy.specs.Steps.{told_by, told_behind, next, MayGoOn}
 use Rattle.policy.proofs.Coming.{may_note}
 use Rattle.policy.proofs.Stepping.{one_more}
-use Rattle.relay.specs.View.{View, square, GoBack, Keeps, AreMarked, AreSo, Leads, IsCredited}
+use Rattle.relay.specs.View.{View, square, Keeps, AreMarked, AreSo, Leads, newest_in}
 use Rattle.relay.specs.Rest.{IsAtRest, Reached}
-use Rattle.relay.specs.Bringing.{Brings}
-use Rattle.relay.proofs.Lives.{lives_same}
-use Rattle.relay.proofs.Where.{live_here}
-use Rattle.relay.proofs.Marking.{rooms_next, marked_event, marked_took, marked_took_beside}
-use Rattle.relay.proofs.Connected.{none_reached, alone, its_side, elsewhere}
+use Rattle.relay.specs.Bringing.{Course, Brings}
+use Rattle.relay.proofs.Marking.{rooms_next, marked_event}
 use Rattle.relay.proofs.Resting.{rests_are_ready}
-use Rattle.relay.proofs.Staying.{so_stays, heard_stays, heard_of_changed, rows_kept, found_live}
-use Rattle.steps.specs.paying.Returning.{own_of, back_on}
-use Rattle.steps.specs.paying.Taking.{MayBeTaken, with_taken, released_for}
+use Rattle.relay.proofs.Staying.{so_stays, heard_stays, rows_kept}
+use Rattle.relay.proofs.Took.{took_performs, marks_may}
+use Rattle.steps.specs.paying.Returning.{back_on}
+use Rattle.steps.specs.paying.Taking.{MayBeTaken, with_taken, took_if, took_then, own_released, older_released}
 
 -- ---- the client's side
 
@@ -91,10 +82,11 @@ module _ (setup : Setup) (kept : View) (count : ℕ) (within : count ≤ kept.un
     so_then : AreSo setup (Does deed ∷ run)
     so_then = so_stays setup run deed tt leads.so
 
-    marked : AreMarked setup.passing kept.marks (rooms_in (told_by then_state) then_state)
+    marked : AreMarked setup.passing (newest_in then_state) kept.marks (rooms_in (told_by then_state) then_state)
     marked =
-        subst (AreMarked setup.passing kept.marks) (sym (rooms_next setup run s leads.stands leads.so deed may so_then))
-        (marked_event setup.passing kept.marks (rooms_in (told_by s) s) leads.marked)
+        subst (λ (os : List Opened). AreMarked setup.passing (λ j. given j os) kept.marks (rooms_in (told_by then_state) then_state)) (sym (ap (λ (d : Desk). d.book.given) desk))
+        (subst (AreMarked setup.passing (newest_in s) kept.marks) (sym (rooms_next setup run s leads.stands leads.so deed may so_then))
+        (marked_event setup.passing (newest_in s) kept.marks (rooms_in (told_by s) s) leads.marked))
 
     leads_on : Leads setup (Does deed ∷ run) fewer_untaken square then_state
     leads_on = record {
@@ -117,179 +109,31 @@ module _ (setup : Setup) (kept : View) (count : ℕ) (within : count ≤ kept.un
 
 -- ---- an upstream's side
 
--- so much more than nothing
-just : (before more sum : ℕ) → before ≡ 0 → more ≡ sum → before + more ≡ sum
-just before more sum none same = omega (arith, none, same)
-
 module _ (setup : Setup) (kept : View) (k count : ℕ) (may_take : MayBeTaken kept.upstreams.live k count) (rest : IsAtRest kept) (outputs : List Output) where
   -- the stream of the connection
   abbrev pub stream_of : ℕ
   stream_of = may_take.connection.live.stream
 
-  -- what is kept then, and what goes back
-  abbrev pub more_taken : View
-  more_taken = with_taken k stream_of count kept
+  -- what is kept and goes back where so many are taken by now
+  abbrev taken_by : ℕ → View
+  taken_by now = record kept { upstreams = record kept.upstreams { live = map (taken_at k count) kept.upstreams.live }; marks = taken_of_all stream_of k now kept.marks }
 
-  abbrev pub back : ℕ
-  back = released_for stream_of count kept
-
-  module _ (run : List Move) (s : State) (leads : Leads setup run kept square s) where
-    abbrev up_deed : Deed
-    up_deed = Notes (UpTook k count)
-
-    abbrev rooms : receiving.State
-    rooms = rooms_in (told_by s) s
-
-    abbrev rooms_then : receiving.State
-    rooms_then = receiving.with_taken rooms k count
-
-    open_ones : s.requests.live ≡ lives kept.upstreams.live
-    open_ones = ap (λ (r : serving.State). r.live) leads.keeps.requests
-
-    up_desk : desk_after setup s.desk (conduct_of up_deed) ≡ record { book = record s.desk.book { ends = false }; queue = [] }
-    up_desk = happened_desk setup false s.desk (UpTook k count) (record s.desk.book { ends = false }) [] (heard_lead setup s.desk.book (UpTook k count) (rows_kept setup run s leads.stands) refl)
-
-    -- it is open, and no more is taken than was put out
-    up_admitted : may_come (gates_in (told_by s) s.requests) rooms (UpTook k count) ≡ true
-    up_admitted =
-        let so = leads.keeps.counted k may_take.connection may_take.found in
-        let most : s.windows.took k + count ≤ s.windows.out k = subst (λ n. n + count ≤ s.windows.out k) (sym so.1) (subst (λ n. may_take.connection.took + count ≤ n) (sym so.0) may_take.within) in
-        and_from (is_some (live_of k s.requests.live)) (nat_le (s.windows.took k + count) (s.windows.out k))
-        (ap (λ (o : Option Live). is_some o) (ap (live_of k) open_ones ∙ found_live k kept.upstreams.live may_take.connection may_take.found))
-        (le-leb (s.windows.took k + count) (s.windows.out k) most)
-
-    up_may : MayGoOn setup s (Does up_deed)
-    up_may = (ap (λ (d : Desk). d.book.ends) up_desk, may_note setup (told_behind setup s up_deed) s (rests_are_ready setup run kept s leads rest) (UpTook k count) refl up_admitted)
-
-    abbrev up_state : State
-    up_state = next setup s (Does up_deed)
-
-    up_book : up_state.desk.book ≡ book_of (record { given = up_state.desk.book.given; untaken = kept.untaken }) kept.inbound
-    up_book =
-        ap (λ (d : Desk). d.book) up_desk
-        ∙ ap (λ (b : Book). record b { ends = false }) leads.keeps.book
-        ∙ ap (λ (os : List Opened). book_of (record { given = os; untaken = kept.untaken }) kept.inbound) (sym (ap (λ (d : Desk). d.book.given) up_desk))
-
-    up_requests : up_state.requests ≡ upstreams.with_due more_taken.upstreams serving.Due.Nothing
-    up_requests =
-        leads.keeps.requests
-        ∙ ap (λ (ls : List Live). record { held = kept.upstreams.held; live = ls; due = serving.Due.Nothing; count = kept.upstreams.count }) (sym (lives_same (taken_at k count) (λ c. refl) kept.upstreams.live))
-
-    -- ---- what waits and what goes back
-
-    ahead : NoneReached rooms
-    ahead = none_reached setup run kept square s leads
-
-    alone_here : (other : ℕ) → other ≢ stream_of → is_live rooms other ≡ true → (rooms.row other).k ≢ k
-    alone_here = alone setup run kept square s leads k may_take.connection may_take.found
-
-    -- what goes back is what was kept of its stream, or nothing
-    shared_then : rooms_then.debt ≡ back
-    shared_then = by (find_side stream_of kept.marks) refl
-      where
-        none_before : rooms.debt ≡ 0
-        none_before = leads.keeps.credited.shared
-
-        by : (o : Option Side) → find_side stream_of kept.marks ≡ o → rooms_then.debt ≡ back
-        by (Some side) found =
-            let number = (its_side setup run kept square s leads k may_take.connection may_take.found side found).0 in
-            telling.sum_own kept.marks rooms leads.marked.stand stream_of side found k number alone_here ahead count ∙ just rooms.debt back back none_before refl
-        by None none =
-            telling.none_go_back kept.marks rooms leads.marked.stand k (elsewhere setup run kept square s leads k may_take.connection may_take.found none) ahead count
-            ∙ none_before
-            ∙ sym (ap (λ (o : Option Side). released (took_if o + count) (queue_if o)) none)
-
-    own_then : is_live rooms stream_of ≡ true → (rooms.row stream_of).debt ≡ 0 → (rooms_then.row stream_of).debt ≡ back
-    own_then on none_before = by (find_side stream_of kept.marks) refl
-      where
-        by : (o : Option Side) → find_side stream_of kept.marks ≡ o → (rooms_then.row stream_of).debt ≡ back
-        by (Some side) found =
-            let number = (its_side setup run kept square s leads k may_take.connection may_take.found side found).0 in
-            just (rooms.row stream_of).debt (released (receiving.add k count rooms.took (rooms.row stream_of).k) (rooms.row stream_of).queue) back none_before
-            (telling.released_own kept.marks rooms leads.marked.stand stream_of side found k number count)
-        by None none =
-            just (rooms.row stream_of).debt (released (receiving.add k count rooms.took (rooms.row stream_of).k) (rooms.row stream_of).queue) back none_before
-            (ap (λ (ms : List Mark). released (receiving.add k count rooms.took (rooms.row stream_of).k) ms) (leads.marked.stand.rest stream_of on none)
-            ∙ sym (ap (λ (o : Option Side). released (took_if o + count) (queue_if o)) none))
-
-    -- a stream on which octets go back is active
-    live_of_book : (id : ℕ) → GoBack kept.inbound id → is_live rooms id ≡ true
-    live_of_book id goes = live_here setup run s leads.stands leads.so id ∙ ap (λ (b : Book). (sight_in (summary_in b)).active id) leads.keeps.book ∙ goes.active
-
-    up_credited : IsCredited (back_on stream_of back) kept.inbound up_state.windows
-    up_credited = record {
-      fresh = leads.keeps.credited.fresh;
-      shared = shared_then;
-      own = λ id goes. elim (eqb_tells stream_of id) [
-        | inl own ↦
-            subst (λ n. (rooms_then.row n).debt ≡ own_of stream_of back n) own.1
-            (own_then (subst (λ n. is_live rooms n ≡ true) (sym own.1) (live_of_book id goes)) (subst (λ n. (rooms.row n).debt ≡ 0) (sym own.1) (leads.keeps.credited.own id goes))
-            ∙ sym (ap (λ b. if b then back else 0) (eq-eqb stream_of stream_of refl)))
-        | inr off ↦
-            telling.others_stay rooms k count id ahead (live_of_book id goes) (alone_here id (λ same. off.1 (sym same)) (live_of_book id goes))
-            ∙ leads.keeps.credited.own id goes
-            ∙ sym (ap (λ b. if b then back else 0) off.0)
-      ];
-    }
-
-    up_so : AreSo setup (Does up_deed ∷ run)
-    up_so = so_stays setup run up_deed tt leads.so
-
-    up_marked : AreMarked setup.passing more_taken.marks (rooms_in (told_by up_state) up_state)
-    up_marked = subst (AreMarked setup.passing more_taken.marks) (sym (rooms_next setup run s leads.stands leads.so up_deed up_may up_so)) (by (find_side stream_of kept.marks) refl)
-      where
-        by : (o : Option Side) → find_side stream_of kept.marks ≡ o → AreMarked setup.passing more_taken.marks rooms_then
-        by (Some side) found =
-            let number = (its_side setup run kept square s leads k may_take.connection may_take.found side found).0 in
-            marked_took setup.passing kept.marks rooms leads.marked k count stream_of side ahead found number alone_here
-        by None none =
-            subst (λ (sides : List Side). AreMarked setup.passing sides rooms_then) (sym (change_none stream_of (taking count) kept.marks none))
-            (marked_took_beside setup.passing kept.marks rooms leads.marked k count ahead (elsewhere setup run kept square s leads k may_take.connection may_take.found none))
-
-    up_counted : (j : ℕ) (c : Connection) → find number_of j more_taken.upstreams.live ≡ Some c → (up_state.windows.out j ≡ c.out) × (up_state.windows.took j ≡ c.took)
-    up_counted j c found = by (find number_of j kept.upstreams.live) refl (sym (find_map number_of (taken_at k count) (λ x. refl) j kept.upstreams.live) ∙ found)
-      where
-        by : (o : Option Connection) → find number_of j kept.upstreams.live ≡ o → option_map (taken_at k count) o ≡ Some c → (up_state.windows.out j ≡ c.out) × (up_state.windows.took j ≡ c.took)
-        by None there is = cc
-        by (Some x) there is =
-            let changed : taken_at k count x ≡ c = cc in
-            let so = leads.keeps.counted j x there in
-            let number : x.live.k ≡ j = found_key number_of j kept.upstreams.live x there in (
-              so.0 ∙ ap (λ (y : Connection). y.out) changed,
-              ap (λ n. if j == k then n + count else n) so.1 ∙ ap (λ n. if n == k then x.took + count else x.took) (sym number) ∙ ap (λ (y : Connection). y.took) changed,
-            )
-
-    up_keeps : Keeps more_taken (back_on stream_of back) up_state
-    up_keeps = record {
-      book = up_book;
-      owed = ap (λ (d : Desk). d.queue) up_desk;
-      offers = leads.keeps.offers;
-      requests = up_requests;
-      decoding = leads.keeps.decoding;
-      encoding = leads.keeps.encoding;
-      read = leads.keeps.read;
-      credited = up_credited;
-      counted = up_counted;
-    }
-
-    up_leads : Leads setup (Does up_deed ∷ run) more_taken (back_on stream_of back) up_state
-    up_leads = record {
-      stands = one_more setup run s (Does up_deed) leads.stands up_may;
-      so = up_so;
-      heard = heard_of_changed setup (Does up_deed ∷ run) kept.upstreams.live (taken_at k count) (λ c. refl) (λ c. refl) (heard_stays setup run s leads.stands leads.so kept.upstreams.live open_ones up_deed tt leads.heard);
-      keeps = up_keeps;
-      marked = up_marked;
-      in_effect = tt;
-    }
+  abbrev back_by : ℕ → Taken
+  back_by now = record { own = released now (queue_of stream_of kept.marks); older = released_behind k now kept.marks }
 
   -- An upstream's side took so many octets.
-  pub up_took : Brings setup kept square outputs (Happened (UpTook k count)) more_taken (back_on stream_of back) outputs
-  up_took run s leads = record {
-    segment = record { moves = Does (up_deed run s leads) ∷ []; state = up_state run s leads; by_rule = (s, refl, up_may run s leads, refl); leads = up_leads run s leads; puts = refl };
-    own = [];
-    begins = refl;
-    are_own = tt;
-  }
+  pub up_took : Brings setup kept square outputs (Happened (UpTook k count)) (with_taken k stream_of count kept) (back_on stream_of (record { own = own_released k stream_of count kept; older = older_released k count kept })) outputs
+  up_took run s leads =
+      subst (λ n. Course setup run s outputs (Happened (UpTook k count)) (taken_by n) (back_on stream_of (back_by n)) outputs) (sym (ap (λ n. n + count) (ap took_if may_take.found)))
+      (took_performs setup kept rest k count may_take.connection may_take.found may_take.within run s leads outputs)
+
+-- how many it took, where it takes so many more
+pub took_after : (k count : ℕ) (live : List Connection) (c : Connection) → find number_of k live ≡ Some c → took_if (find number_of k (map (taken_at k count) live)) ≡ took_if (find number_of k live) + count
+took_after k count live c found =
+    ap took_if (find_map number_of (taken_at k count) (λ x. refl) k live)
+    ∙ ap (λ (o : Option Connection). took_if (option_map (taken_at k count) o)) found
+    ∙ ap (λ b. if b then c.took + count else c.took) (eq-eqb c.live.k k (found_key number_of k live c found))
+    ∙ sym (ap (λ (o : Option Connection). took_if o + count) found)
 
 -- ---- where the stream is named
 
@@ -303,15 +147,15 @@ module _ (kept : View) (k stream count : ℕ) (may_take : MayBeTaken kept.upstre
   its_name = named (find number_of k kept.upstreams.live) may_take.connection stream may_take.found of
 
   -- Its side took so many octets.
-  pub took_of_stream : (setup : Setup) → IsAtRest kept → (outputs : List Output) → Brings setup kept square outputs (Happened (UpTook k count)) (with_taken k stream count kept) (back_on stream (released_for stream count kept)) outputs
-  took_of_stream setup rest outputs = subst (λ n. Brings setup kept square outputs (Happened (UpTook k count)) (with_taken k n count kept) (back_on n (released_for n count kept)) outputs) (sym its_name) (up_took setup kept k count may_take rest outputs)
+  pub took_of_stream : (setup : Setup) → IsAtRest kept → (outputs : List Output)
+      → Brings setup kept square outputs (Happened (UpTook k count)) (with_taken k stream count kept) (back_on stream (record { own = own_released k stream count kept; older = older_released k count kept })) outputs
+  took_of_stream setup rest outputs =
+      subst (λ n. Brings setup kept square outputs (Happened (UpTook k count)) (with_taken k n count kept) (back_on n (record { own = own_released k n count kept; older = older_released k count kept })) outputs) (sym its_name)
+      (up_took setup kept k count may_take rest outputs)
 
-  -- What is kept of the stream's marks has what was put out and isn't taken.
-  pub marks_have : (setup : Setup) → Reached setup kept square → IfSome (find_side stream kept.marks) (λ side. side.took + count ≤ side.out)
-  marks_have setup reached = subst (λ n. IfSome (find_side n kept.marks) (λ side. side.took + count ≤ side.out)) (sym its_name) (by (find_side may_take.connection.live.stream kept.marks) refl)
-    where
-      by : (o : Option Side) → find_side may_take.connection.live.stream kept.marks ≡ o → IfSome o (λ side. side.took + count ≤ side.out)
-      by None none = tt
-      by (Some side) found =
-          let same = its_side setup reached.0 kept square reached.1 reached.2 k may_take.connection may_take.found side found in
-          subst (λ n. n + count ≤ side.out) (sym same.2) (subst (λ n. may_take.connection.took + count ≤ n) (sym same.1) may_take.within)
+  -- What is kept of the stream's marks may have so many taken by now.
+  pub marks_have : (setup : Setup) → IsAtRest kept → Reached setup kept square → IfSome (find_side stream kept.marks) (MayTake (took_then k count kept))
+  marks_have setup rest reached =
+      subst (λ n. IfSome (find_side n kept.marks) (MayTake (took_then k count kept))) (sym its_name)
+      (subst (λ n. IfSome (find_side may_take.connection.live.stream kept.marks) (MayTake n)) (sym (ap (λ n. n + count) (ap took_if may_take.found)))
+      (marks_may setup kept rest k count may_take.connection may_take.found may_take.within reached.0 reached.1 reached.2))

@@ -5,7 +5,7 @@ use Rattle.model.specs.Logs.{Output}
 use Rattle.model.specs.Logs.Output.{ToClient}
 use Rattle.model.specs.Setup.{Setup}
 use Rattle.model.specs.Tapes.{put}
-use Rattle.model.specs.Openings.{Opened}
+use Rattle.model.specs.Openings.{Opened, given}
 use Rattle.model.specs.Decoding.{Partial, joined}
 use Rattle.model.specs.Lifetimes.{may_open}
 use Rattle.model.specs.Admission.{most_untaken}
@@ -21,7 +21,7 @@ use Rattle.offering.specs.Sight.{sight_in}
 use Rattle.receiving.specs.State as receiving
 use Rattle.serving.specs.State as serving
 use Rattle.serving.specs.Rule.{MaySend}
-use Rattle.serving.specs.State.{find}
+use Rattle.serving.specs.Lines.{find}
 use Rattle.tables.specs.State as tables
 use Rattle.judgement.specs.Inbound.{book_of}
 use Rattle.judgement.proofs.SendingBooks.{control_leads}
@@ -37,7 +37,7 @@ use Rattle.policy.proofs.Going.{may_pay}
 use Rattle.policy.proofs.Stepping.{one_more}
 use Rattle.receiving.specs.Rule.{is_over_by}
 use Rattle.policy.specs.Rule.{rooms_in}
-use Rattle.relay.specs.View.{View, Pending, Keeps, AreMarked, IsInEffect, Leads, IsCredited}
+use Rattle.relay.specs.View.{View, Pending, Keeps, AreMarked, IsInEffect, Leads, IsCredited, newest_in}
 use Rattle.relay.specs.Bringing.{PerformsOwn}
 use Rattle.steps.proofs.paying.Held.{all_kept}
 use Rattle.relay.proofs.Staying.{so_stays, heard_stays, rows_kept, all_held_served}
@@ -149,11 +149,12 @@ module _ (setup : Setup) (kept : View) (pending : Pending) (rest : List Frame) (
     windows_kept : then_state.windows ≡ s.windows
     windows_kept = windows_sent setup.passing (gates_in (told_by s) s.requests) s.windows (sight_in (told_by s)) (sight_in (told_behind setup s deed)) (noted_of frame) control.no_update none_over
 
-    marked : AreMarked setup.passing kept.marks (rooms_in (told_by then_state) then_state)
+    marked : AreMarked setup.passing (newest_in then_state) kept.marks (rooms_in (told_by then_state) then_state)
     marked =
-        subst (AreMarked setup.passing kept.marks)
+        subst (λ (os : List Opened). AreMarked setup.passing (λ j. given j os) kept.marks (rooms_in (told_by then_state) then_state)) (sym (ap (λ (d : Desk). d.book.given) desk))
+        (subst (AreMarked setup.passing (newest_in s) kept.marks)
         (sym (rooms_next setup run s leads.stands leads.so deed may (so_stays setup run deed tt leads.so) ∙ rooms_sent setup.passing (rooms_in (told_by s) s) (sight_in (told_by s)) (sight_in (told_behind setup s deed)) (noted_of frame) control.no_update none_over))
-        (marked_sent setup.passing kept.marks (rooms_in (told_by s) s) leads.marked (noted_of frame) false)
+        (marked_sent setup.passing (newest_in s) kept.marks (rooms_in (told_by s) s) leads.marked (noted_of frame) false))
 
     credited : IsCredited paid_pending kept.inbound then_state.windows
     credited =

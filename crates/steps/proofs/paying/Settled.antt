@@ -12,7 +12,7 @@ use Rattle.conduct.specs.Rows.{find}
 use Rattle.conduct.specs.Judging.{is_over_in}
 use Rattle.outputs.specs.Sent.{window_update}
 use Rattle.streams_kept.specs.Asked.{has, is_active}
-use Rattle.marks_kept.specs.Sides.{has_untaken}
+use Rattle.marks_kept.specs.Sides.{has_untaken, is_past}
 use Rattle.judgement.specs.Inbound.{Inbound}
 use Rattle.relay.specs.View.{View, square, GoBack}
 use Rattle.relay.specs.Rest.{GoesOn}
@@ -20,9 +20,9 @@ use Rattle.relay.specs.Bringing.{PerformsOwn}
 use Rattle.relay.proofs.Bringing.{own_none, own_then}
 use Rattle.steps.specs.Stopping.{IsCalmed, EndsFrom}
 use Rattle.steps.proofs.Calming.{calm_ends, calm_behind}
-use Rattle.steps.specs.paying.Returning.{own_of, goes_back_on, given_on_connection, given_on_stream}
+use Rattle.steps.specs.paying.Returning.{own_of, due_on_stream, goes_back_on, given_on_connection, given_on_stream}
 use Rattle.steps.proofs.paying.Rows.{has_stays, spent_stays}
-use Rattle.steps.proofs.paying.Settling.{fresh, due_back, due_on_stream, settles, forgets, gives_shared, gives_own}
+use Rattle.steps.proofs.paying.Settling.{fresh, due_back, settles, forgets, gives_shared, gives_own}
 use Rattle.steps.proofs.paying.Fitting.{of_stream}
 
 -- Without octets nothing goes back but what is dropped.
@@ -43,9 +43,9 @@ pub dropped_ends : (setup : Setup) (kept : View) (shared : ℕ) (o p : List Outp
 dropped_ends setup kept shared o p some is = calm_ends setup kept (record square { shared = shared }) (inr (refl, inl some)) refl o p is
 
 -- The effect is over, and then they can't go back.
-pub fresh_ends : (setup : Setup) (kept : View) (count shared : ℕ) (o p : List Output) → 0 < count → has_untaken kept.inbound.last kept.marks ≡ false → IsCalmed kept o p → EndsFrom setup kept (fresh count shared) o p
-fresh_ends setup kept count shared o p some none is =
-    calm_behind setup kept kept (fresh count shared) (due_back kept.inbound.last count (count + shared)) o o p (settles setup kept count shared o none)
+pub fresh_ends : (setup : Setup) (kept : View) (count shared : ℕ) (o p : List Output) → 0 < count → is_past kept.inbound.last kept.marks ≡ false → has_untaken kept.inbound.last kept.marks ≡ false → IsCalmed kept o p → EndsFrom setup kept (fresh count shared) o p
+fresh_ends setup kept count shared o p some newest none is =
+    calm_behind setup kept kept (fresh count shared) (due_back kept.inbound.last count (count + shared)) o o p (settles setup kept count shared o newest none)
     (calm_ends setup kept (due_back kept.inbound.last count (count + shared)) (inr (refl, inl (omega (arith, some)))) refl o p is)
 
 -- a stream on which they go back
@@ -57,7 +57,7 @@ goes_back inbound id is =
 pub own_some : (id count : ℕ) → 0 < count → 0 < own_of id count id
 own_some id count some = subst (λ n. 0 < n) (sym (ap (λ b. if b then count else 0) (eq-eqb id id refl))) some
 
-module _ (setup : Setup) (kept : View) (count shared all : ℕ) (some : 0 < count) (sum : all ≡ count + shared) (small : all < 2147483648) (on : GoesOn kept) (free : nat_lt most_untaken kept.untaken ≡ false) (none : has_untaken kept.inbound.last kept.marks ≡ false) (outputs : List Output) where
+module _ (setup : Setup) (kept : View) (count shared all : ℕ) (some : 0 < count) (sum : all ≡ count + shared) (small : all < 2147483648) (on : GoesOn kept) (free : nat_lt most_untaken kept.untaken ≡ false) (newest : is_past kept.inbound.last kept.marks ≡ false) (none : has_untaken kept.inbound.last kept.marks ≡ false) (outputs : List Output) where
   abbrev id : ℕ
   id = kept.inbound.last
 
@@ -71,7 +71,7 @@ module _ (setup : Setup) (kept : View) (count shared all : ℕ) (some : 0 < coun
   shared_back : PerformsOwn setup kept (fresh count shared) outputs first (due_on_stream id count) first_out
   shared_back =
       own_then setup kept kept first (fresh count shared) (due_back id count all) (due_on_stream id count) outputs outputs first_out
-      (subst (λ n. PerformsOwn setup kept (fresh count shared) outputs kept (due_back id count n) outputs) (sym sum) (settles setup kept count shared outputs none))
+      (subst (λ n. PerformsOwn setup kept (fresh count shared) outputs kept (due_back id count n) outputs) (sym sum) (settles setup kept count shared outputs newest none))
       (gives_shared setup kept all (own_of id count) (omega (arith, some, sum)) small on free outputs)
 
   -- They go back on the connection alone.

@@ -20,9 +20,9 @@ use Rattle.receiving.specs.State as receiving
 use Rattle.receiving.specs.State.{kept_of, with_given, must_wait, settle_by, change, owing, paid, waits, is_live}
 use Rattle.receiving.proofs.Counting.{Counting}
 use Rattle.serving.specs.State.{Held, Due}
-use Rattle.marks_kept.specs.Sides.{Side, waiting, has_untaken, has_untaken_if}
+use Rattle.marks_kept.specs.Sides.{Side, waiting, has_untaken, has_untaken_if, is_past, is_past_if}
 use Rattle.marks_kept.specs.Sides.{find as find_side, change as change_side}
-use Rattle.marks_kept.proofs.Telling.{must_wait_is}
+use Rattle.marks_kept.proofs.Telling.{must_wait_is, untaken_newest}
 use Rattle.streams_kept.specs.Asked.{is_active}
 use Rattle.streams_kept.specs.Sending.{given_back}
 use Rattle.judgement.specs.Inbound.{Inbound}
@@ -36,14 +36,14 @@ use Rattle.policy.specs.State.{State, tape_of}
 use Rattle.policy.specs.Rule.{rooms_in}
 use Rattle.policy.specs.Steps.{told_by, next}
 use Rattle.policy.proofs.Stepping.{one_more}
-use Rattle.relay.specs.View.{View, Pending, square, GoBack, Keeps, AreMarked, AreSo, Leads, IsCredited}
+use Rattle.relay.specs.View.{View, Pending, square, GoBack, Keeps, AreMarked, AreSo, Leads, IsCredited, newest_in}
 use Rattle.relay.specs.Rest.{GoesOn}
 use Rattle.relay.specs.Bringing.{PerformsOwn}
 use Rattle.relay.proofs.Kept.{AreServed}
 use Rattle.relay.proofs.Where.{windows_here}
 use Rattle.relay.proofs.Marking.{rooms_settled, marked_back, marked_waits}
 use Rattle.relay.proofs.Staying.{so_settles, heard_settles, rows_kept}
-use Rattle.steps.specs.paying.Returning.{own_of, goes_back_on, given_on_connection, given_on_stream}
+use Rattle.steps.specs.paying.Returning.{own_of, due_on_stream, goes_back_on, given_on_connection, given_on_stream}
 use Rattle.steps.proofs.paying.Rows.{stays, active_stays, not_to_open}
 use Rattle.steps.proofs.paying.Giving.{IsGivenBack, gives}
 
@@ -56,13 +56,9 @@ fresh count shared = record square { fresh = count; shared = shared }
 abbrev pub due_back : ℕ → ℕ → ℕ → Pending
 due_back id count shared = record square { shared = shared; own = own_of id count }
 
--- what is to go back when the connection has it
-abbrev pub due_on_stream : ℕ → ℕ → Pending
-due_on_stream id count = record square { own = own_of id count }
-
 -- ---- the effect is over
 
-module _ (setup : Setup) (kept : View) (count shared : ℕ) (run : List Move) (s : State) (leads : Leads setup run kept (fresh count shared) s) where
+module _ (setup : Setup) (kept : View) (count shared : ℕ) (newest : is_past kept.inbound.last kept.marks ≡ false) (run : List Move) (s : State) (leads : Leads setup run kept (fresh count shared) s) where
   abbrev rooms : receiving.State
   rooms = rooms_in (told_by s) s
 
@@ -83,9 +79,11 @@ module _ (setup : Setup) (kept : View) (count shared : ℕ) (run : List Move) (s
       none_kept : setup.passing ≡ Whole → has_untaken stream kept.marks ≡ false
       none_kept whole = ap (has_untaken stream) (leads.marked.none whole)
 
-      streaming : setup.passing ≡ Streaming → (o : Option Side) → find_side rooms.stream kept.marks ≡ o → must_wait Streaming rooms ≡ has_untaken_if o
-      streaming is (Some side) found = must_wait_is kept.marks rooms leads.marked.stand side found ∙ ap has_untaken_if found
-      streaming is None none = nowhere (is_live rooms rooms.stream) refl
+      streaming : setup.passing ≡ Streaming → (o : Option Side) → find_side rooms.stream kept.marks ≡ o → must_wait Streaming rooms ≡ has_untaken rooms.stream kept.marks
+      streaming is (Some side) found =
+          let own : side.past ≡ false = sym (ap is_past_if found) ∙ ap (λ n. is_past n kept.marks) last ∙ newest in
+          must_wait_is (newest_in s) kept.marks rooms leads.marked.stand rooms.stream side found own refl
+      streaming is None none = nowhere (is_live rooms rooms.stream) refl ∙ sym (ap has_untaken_if none)
         where
           counting : Counting (tape_of run) rooms
           counting = (windows_here setup run s leads.stands leads.so).counting
@@ -177,7 +175,7 @@ module _ (setup : Setup) (kept : View) (count shared : ℕ) (run : List Move) (s
     so = so_then;
     heard = heard_settles setup run kept.upstreams.live leads.heard;
     keeps = keeps_then kept.marks (due_back stream count (count + shared)) refl refl false none credited_back;
-    marked = subst (AreMarked setup.passing kept.marks) (sym (rooms_then false none)) (marked_back setup.passing kept.marks rooms leads.marked);
+    marked = subst (AreMarked setup.passing (newest_in s) kept.marks) (sym (rooms_then false none)) (marked_back setup.passing (newest_in s) kept.marks rooms leads.marked);
     in_effect = tt;
   }
 
@@ -192,21 +190,23 @@ module _ (setup : Setup) (kept : View) (count shared : ℕ) (run : List Move) (s
     heard = heard_settles setup run kept.upstreams.live leads.heard;
     keeps = keeps_then (change_side stream (waiting count) kept.marks) (record square { shared = shared }) refl refl true some credited_waits;
     marked =
-        subst (AreMarked setup.passing (change_side stream (waiting count) kept.marks)) (sym (rooms_then true some))
-        (subst (λ n. AreMarked setup.passing (change_side stream (waiting n) kept.marks) (settle_by true rooms)) leads.keeps.credited.fresh
-        (subst (λ n. AreMarked setup.passing (change_side n (waiting rooms.count) kept.marks) (settle_by true rooms)) last
+        subst (AreMarked setup.passing (newest_in s) (change_side stream (waiting count) kept.marks)) (sym (rooms_then true some))
+        (subst (λ n. AreMarked setup.passing (newest_in s) (change_side stream (waiting n) kept.marks) (settle_by true rooms)) leads.keeps.credited.fresh
+        (subst (λ n. AreMarked setup.passing (newest_in s) (change_side n (waiting rooms.count) kept.marks) (settle_by true rooms)) last
         (by (find_side rooms.stream kept.marks) refl)));
     in_effect = tt;
   }
     where
-      by : (o : Option Side) → find_side rooms.stream kept.marks ≡ o → AreMarked setup.passing (change_side rooms.stream (waiting rooms.count) kept.marks) (settle_by true rooms)
-      by (Some side) found = marked_waits setup.passing kept.marks rooms leads.marked side found
+      by : (o : Option Side) → find_side rooms.stream kept.marks ≡ o → AreMarked setup.passing (newest_in s) (change_side rooms.stream (waiting rooms.count) kept.marks) (settle_by true rooms)
+      by (Some side) found =
+          let own : side.past ≡ false = sym (ap is_past_if found) ∙ ap (λ n. is_past n kept.marks) last ∙ newest in
+          marked_waits setup.passing (newest_in s) kept.marks rooms leads.marked side found own
       by None none = absurd (let no : true ≡ false = sym some ∙ ap (λ n. has_untaken n kept.marks) (sym last) ∙ ap has_untaken_if none in cc)
 
 -- The effect of the last frame is over: its octets are to go back, where all is taken that was put out for its stream.
-pub settles : (setup : Setup) (kept : View) (count shared : ℕ) (outputs : List Output) → has_untaken kept.inbound.last kept.marks ≡ false → PerformsOwn setup kept (fresh count shared) outputs kept (due_back kept.inbound.last count (count + shared)) outputs
-settles setup kept count shared outputs none run s leads = record {
-  segment = record { moves = Settles ∷ []; state = then_state setup kept count shared run s leads; by_rule = (s, refl, tt, refl); leads = settled_back setup kept count shared run s leads none; puts = refl };
+pub settles : (setup : Setup) (kept : View) (count shared : ℕ) (outputs : List Output) → is_past kept.inbound.last kept.marks ≡ false → has_untaken kept.inbound.last kept.marks ≡ false → PerformsOwn setup kept (fresh count shared) outputs kept (due_back kept.inbound.last count (count + shared)) outputs
+settles setup kept count shared outputs newest none run s leads = record {
+  segment = record { moves = Settles ∷ []; state = then_state setup kept count shared newest run s leads; by_rule = (s, refl, tt, refl); leads = settled_back setup kept count shared newest run s leads none; puts = refl };
   are_own = tt;
 }
 
@@ -214,7 +214,7 @@ settles setup kept count shared outputs none run s leads = record {
 pub defers : (setup : Setup) (kept : View) (count shared : ℕ) (outputs : List Output) → has_untaken kept.inbound.last kept.marks ≡ true
     → PerformsOwn setup kept (fresh count shared) outputs (record kept { marks = change_side kept.inbound.last (waiting count) kept.marks }) (record square { shared = shared }) outputs
 defers setup kept count shared outputs some run s leads = record {
-  segment = record { moves = Settles ∷ []; state = then_state setup kept count shared run s leads; by_rule = (s, refl, tt, refl); leads = settled_waits setup kept count shared run s leads some; puts = refl };
+  segment = record { moves = Settles ∷ []; state = then_state setup kept count shared (untaken_newest kept.marks kept.inbound.last some) run s leads; by_rule = (s, refl, tt, refl); leads = settled_waits setup kept count shared (untaken_newest kept.marks kept.inbound.last some) run s leads some; puts = refl };
   are_own = tt;
 }
 
@@ -278,6 +278,7 @@ module _ (setup : Setup) (kept : View) (count : ℕ) (own : ℕ → ℕ) (some :
     book_is =
         ap (λ (b : Book). behind_update b (window_update 0 count)) leads.keeps.book
         ∙ ap (λ n. behind_book n) (update_grants 0 count small);
+    given_same = refl;
     served = λ hs are. are;
     not_to_open = refl;
     goes_on = goes_on_told setup run kept both s leads on;
@@ -364,6 +365,7 @@ module _ (setup : Setup) (kept : View) (id count : ℕ) (goes : goes_back_on kep
       book = behind_stream_update s.desk.book frame;
       leads_to = stream_update_leads setup s.desk.book (noted_of frame) (rows_kept setup run s leads.stands) (ap (λ (b : Book). b.block_out) leads.keeps.book) refl of_stream;
       book_is = ap (λ (b : Book). behind_stream_update b frame) leads.keeps.book ∙ ap own_book (update_grants id count small);
+      given_same = refl;
       served = served_same;
       not_to_open = not_to_open (told_by s).opened id (and_parts ((sight_in (told_by s)).opened id) _ told_live).0;
       goes_on = goes_on_told setup run kept (due_on_stream id count) s leads on;

@@ -11,6 +11,7 @@ use Rattle.model.specs.Decoding.{Partial}
 use Rattle.model.specs.Errors.{Fault, first_of, or_else}
 use Rattle.model.specs.Errors.Fault.{Connection}
 use Rattle.model.specs.ErrorClause.{is_fatal, rst_stream, ping_ack}
+use Rattle.model.specs.StreamStates.{most_streams}
 use Rattle.model.specs.WindowsOnTape.{is_any, data_length, has_settings}
 use Rattle.model.specs.Messages.Item.{Content}
 use Rattle.model.specs.FrameErrors.{fault_if}
@@ -32,8 +33,9 @@ use Rattle.header_blocks.specs.Encoding.{Encoding}
 use Rattle.tables.specs.Rule.{IsNoted}
 use Rattle.tables.specs.State.{named_by}
 use Rattle.tables.specs.Verdicts.{verdict_in}
-use Rattle.streams_kept.specs.Asked.{changed}
+use Rattle.streams_kept.specs.Asked.{is_active, changed}
 use Rattle.streams_kept.specs.Sending.{is_served}
+use Rattle.marks_kept.specs.Sides.{is_past}
 use Rattle.streams_kept.proofs.Changes.{same_ids}
 use Rattle.judgement.specs.Inbound.{Inbound, Outside, book_of, told_of}
 use Rattle.judgement.specs.Judgement.{IsPlain, IsJudged, IsTaken, behind, cause_before, cause_behind}
@@ -67,6 +69,8 @@ use Rattle.steps.specs.declared.plain_frames.taking.Taken.{Taken}
 use Rattle.steps.specs.declared.plain_frames.taking.Taken.TheVariants as taken
 use Rattle.steps.proofs.plain_frames.Streams.{none_completed, ids_now}
 use Rattle.steps.proofs.plain_frames.Faults.{names_none}
+use Rattle.steps.proofs.plain_frames.Standing.{active_with, open_with, active_not_discarded}
+use Rattle.steps.proofs.plain_frames.Newest.{gone_newest, no_octets, idle_newest, open_newest}
 use Rattle.steps.proofs.plain_frames.Coming.{few, kept_rows}
 use Rattle.steps.proofs.plain_frames.Quiet.{quiet, taken_by, passed_over}
 use Rattle.steps.proofs.plain_frames.Ending.{none_cut_without, reset_by_client, refused, refused_over}
@@ -136,10 +140,10 @@ module _ (setup : Setup) (old : View) (rest : IsAtRest old) (setup' : Setup) (re
 
   -- what is done, in words of the answer that is given
   finish : (due : Due) (back : ℕ) (answer : Taken) (outputs new_outputs put_out : List Output) (target new : View) → Goes due back answer → new ≡ target → put_out ≡ new_outputs
-      → Brings setup old square outputs (coming frame) target (record square { due = due; fresh = data_length is_any frame; shared = back }) new_outputs → NoneCut target.offers → IsAbout frame.id old target → ids_of target.inbound.rows ≡ ids_of old.inbound.rows → target.inbound.last ≡ frame.id
+      → Brings setup old square outputs (coming frame) target (record square { due = due; fresh = data_length is_any frame; shared = back }) new_outputs → NoneCut target.offers → IsAbout frame.id old target → ids_of target.inbound.rows ≡ ids_of old.inbound.rows → target.inbound.last ≡ frame.id → (0 < data_length is_any frame → is_past frame.id target.marks ≡ false)
       → IsPlainTaken setup old outputs frame answer new put_out
-  finish due back (taken.Fatal code) outputs new_outputs put_out target new goes new_is puts brings none_cut about ids last = absurd goes
-  finish due back (taken.Goes answer dropped) outputs new_outputs put_out target new goes new_is puts brings none_cut about ids last =
+  finish due back (taken.Fatal code) outputs new_outputs put_out target new goes new_is puts brings none_cut about ids last newest = absurd goes
+  finish due back (taken.Goes answer dropped) outputs new_outputs put_out target new goes new_is puts brings none_cut about ids last newest =
       subst (λ (v : View). IsPassed setup old outputs frame answer dropped v put_out) (sym new_is)
       (subst (λ (o : List Output). IsPassed setup old outputs frame answer dropped target o) (sym puts)
       (record {
@@ -150,6 +154,7 @@ module _ (setup : Setup) (old : View) (rest : IsAtRest old) (setup' : Setup) (re
         about = about;
         ids = ids;
         last = last;
+        newest = newest;
       }))
 
   module _ (left : book_of (outside_of old.untaken) inbound ≡ behind setup b frame) where
@@ -162,6 +167,16 @@ module _ (setup : Setup) (old : View) (rest : IsAtRest old) (setup' : Setup) (re
     -- it leaves the service of the other streams, where it is no error of the connection
     about_left : is_fatal (fault_in (summary_in b) (coming frame)) ≡ false → IsAbout frame.id old mid
     about_left mild = record { served = λ other apart. ap (λ (x : Book). is_served x.rows other) left ∙ frame_served setup b (noted_of frame) mild kept other apart; live = refl }
+
+  -- the connection of a stream on which DATA without a fault comes wasn't given to another since
+  data_newest : (answer : Judged) → ((outside : Outside) → IsTaken setup (book_of outside old.inbound) frame (book_of outside inbound) answer) → frame.kind ≡ data_kind → is_past frame.id old.marks ≡ false
+  data_newest answer taken kind =
+      let few_rows : length (ids_of old.inbound.rows) ≤ most_streams = subst (λ (x : Book). length (ids_of x.rows) ≤ most_streams) reached.2.keeps.book (few setup' reached.0 old reached.1 reached.2) in
+      let faultless = (taken (outside_of old.untaken)).faultless in
+      open_newest setup' reached.0 old square reached.1 reached.2 frame.id (record {
+        active = active_with b frame data_kind kind refl refl refl (none_completed setup b frame plain kept) few_rows faultless;
+        goes_on = open_with b frame data_kind kind refl refl refl (none_completed setup b frame plain kept) few_rows faultless refl;
+      })
 
   -- ---- an error of the connection
 
@@ -199,6 +214,7 @@ module _ (setup : Setup) (old : View) (rest : IsAtRest old) (setup' : Setup) (re
       (quiet setup old rest frame plain inbound table answer taken (ap (λ k. k == data_kind) is ∙ no_data) (ap (λ k. k == rst_stream_kind) is ∙ no_reset) [] old.encoding owes
       (λ outside. names_none (told_of outside old.inbound) frame (ap (λ k. has_settings (record frame { kind = k })) is ∙ no_settings) old.encoding) adds outputs)
       rest.none_cut (about_left (taken (outside_of old.untaken)).left (ap is_fatal (taken (outside_of old.untaken)).faultless)) (ids_left (taken (outside_of old.untaken)).left) (last_left (taken (outside_of old.untaken)).left)
+      (no_octets frame old.marks (ap (λ k. k == data_kind) is ∙ no_data))
 
   -- a control frame is owed, and was sent
   paid_so : (answer : Judged) → ((outside : Outside) → IsTaken setup (book_of outside old.inbound) frame (book_of outside inbound) answer) → (kind : ℕ) → frame.kind ≡ kind → (kind == data_kind) ≡ false → (kind == rst_stream_kind) ≡ false → (encoding : Encoding)
@@ -214,6 +230,7 @@ module _ (setup : Setup) (old : View) (rest : IsAtRest old) (setup' : Setup) (re
       (subst (λ (v : View). IsAbout frame.id old v) (sym paid.kept) (let about = about_left (taken (outside_of old.untaken)).left (ap is_fatal (taken (outside_of old.untaken)).faultless) in record { served = about.served; live = about.live }))
       (ap (λ (v : View). ids_of v.inbound.rows) paid.kept ∙ ids_left (taken (outside_of old.untaken)).left)
       (ap (λ (v : View). v.inbound.last) paid.kept ∙ last_left (taken (outside_of old.untaken)).left)
+      (no_octets frame new.marks (ap (λ k. k == data_kind) is ∙ no_data))
 
   -- DATA
   content_so : (answer : Judged) (so : (outside : Outside) → IsTaken setup (book_of outside old.inbound) frame (book_of outside inbound) answer) (kind : frame.kind ≡ data_kind)
@@ -225,10 +242,12 @@ module _ (setup : Setup) (old : View) (rest : IsAtRest old) (setup' : Setup) (re
       finish Nothing 0 given outputs outputs put_out mid new left.goes left.kept left.puts
       (left_alone setup old rest frame plain inbound table answer so kind octets ends a c d owes gains on outputs)
       rest.none_cut (let about = about_left (so (outside_of old.untaken)).left (ap is_fatal (so (outside_of old.untaken)).faultless) in record { served = about.served; live = about.live }) (ids_left (so (outside_of old.untaken)).left) (last_left (so (outside_of old.untaken)).left)
+      (λ some. data_newest answer so kind)
   content_so answer so kind octets ends a c d owes gains true on given outputs put_out new done =
       finish done.0.due 0 given outputs outputs put_out _ new done.0.goes done.0.kept done.1
       (content_comes setup old rest frame plain inbound table answer so kind octets ends a c d owes gains on done.0.due new.upstreams.held done.0.takes outputs)
       rest.none_cut (let about = about_left (so (outside_of old.untaken)).left (ap is_fatal (so (outside_of old.untaken)).faultless) in record { served = about.served; live = about.live }) (ids_left (so (outside_of old.untaken)).left) (last_left (so (outside_of old.untaken)).left)
+      (λ some. data_newest answer so kind)
 
   -- a body that is too long
   replied_so : (taken : (outside : Outside) → IsTaken setup (book_of outside old.inbound) frame (book_of outside inbound) judged.LargeBody) → ((outside : Outside) → IsTaken setup' (book_of outside old.inbound) frame (book_of outside inbound) judged.LargeBody) → (out : Bool) → (find old.inbound.rows frame.id).head_out ≡ out
@@ -239,12 +258,14 @@ module _ (setup : Setup) (old : View) (rest : IsAtRest old) (setup' : Setup) (re
       (offered_cuts_none setup' old rest frame plain inbound table taken' out reached.0 reached.1 reached.2)
       (let about = about_left (taken (outside_of old.untaken)).left (ap is_fatal (taken (outside_of old.untaken)).faultless) in record { served = about.served; live = about.live })
       (ids_left (taken (outside_of old.untaken)).left) (last_left (taken (outside_of old.untaken)).left)
+      (λ some. data_newest judged.LargeBody taken (taken (outside_of old.untaken)).says.0)
   replied_so taken taken' true out given outputs put_out new done =
       finish Nothing (waiting_for frame.id old) given outputs _ put_out _ new done.goes done.kept done.puts
       (cut_short setup old rest frame plain inbound table taken out (fits frame.id enhance_your_calm small) done.few outputs)
       (none_cut_without frame.id old.offers rest.none_cut)
       (about_then frame.id old mid _ (about_left (taken (outside_of old.untaken)).left (ap is_fatal (taken (outside_of old.untaken)).faultless)) (about_changed frame.id (Over true) mid _ refl refl))
       (same_ids frame.id (Over true) inbound.rows ∙ ids_left (taken (outside_of old.untaken)).left) (last_left (taken (outside_of old.untaken)).left)
+      (λ some. gone_newest frame.id old.marks)
 
   -- What is done by an answer is right of the frame.
   pub acted_so : (answer : Judged) → ((outside : Outside) → IsJudged setup (book_of outside old.inbound) frame (book_of outside inbound) answer) → ((outside : Outside) → IsJudged setup' (book_of outside old.inbound) frame (book_of outside inbound) answer) → (given : Taken) (outputs put_out : List Output) (new : View)
@@ -255,7 +276,7 @@ module _ (setup : Setup) (old : View) (rest : IsAtRest old) (setup' : Setup) (re
       (refused setup old rest frame plain inbound table code (fits frame.id code small) (λ outside. (so outside).is) (so (outside_of old.untaken)).left done.few outputs)
       (none_cut_without frame.id old.offers rest.none_cut)
       (record { served = λ other apart. ap (λ (rows : List Row). is_served rows other) (reset_book ∙ ap (λ (x : Book). x.rows) reset) ∙ (about_changed frame.id (Over true) left_view (record left_view { inbound = record inbound { rows = changed frame.id (Over true) left_rows } }) refl refl).served other apart ∙ frame_served setup b (noted_of frame) (ap is_fatal (so (outside_of old.untaken)).is) kept other apart; live = refl })
-      ids last
+      ids last (λ some. gone_newest frame.id old.marks)
     where
       left_rows : List Row
       left_rows = (behind setup b frame).rows
@@ -281,6 +302,11 @@ module _ (setup : Setup) (old : View) (rest : IsAtRest old) (setup' : Setup) (re
       finish Nothing 0 given outputs outputs put_out mid new done.goes done.kept done.puts
       (passed_over setup old rest frame plain inbound table (λ outside. (so outside).left) (λ outside. (so outside).is) outputs)
       rest.none_cut (about_left (so (outside_of old.untaken)).left (ap is_fatal (so (outside_of old.untaken)).is)) (ids_left (so (outside_of old.untaken)).left) (last_left (so (outside_of old.untaken)).left)
+      (λ some. by (is_active old.inbound.rows frame.id) refl)
+    where
+      by : (x : Bool) → is_active old.inbound.rows frame.id ≡ x → is_past frame.id old.marks ≡ false
+      by false idle = idle_newest setup' reached.0 old square reached.1 reached.2 frame.id idle
+      by true active = absurd (active_not_discarded b frame kept active (so (outside_of old.untaken)).is)
   acted_so judged.Ignored so so' given outputs put_out new done =
       quiet_so judged.Ignored so frame.kind refl parts.0 parts.1 parts.2
       (λ outside. plain_owes setup (book_of outside old.inbound) frame plain (book_of outside inbound) judged.Ignored (so outside))
@@ -320,6 +346,7 @@ module _ (setup : Setup) (old : View) (rest : IsAtRest old) (setup' : Setup) (re
       (none_cut_without frame.id old.offers rest.none_cut)
       (let about = about_left (so (outside_of old.untaken)).left (ap is_fatal (so (outside_of old.untaken)).faultless) in record { served = about.served; live = about.live })
       (ids_left (so (outside_of old.untaken)).left) (last_left (so (outside_of old.untaken)).left)
+      (λ some. gone_newest frame.id old.marks)
   acted_so (judged.Content octets ends) so so' given outputs put_out new done =
       content_so (judged.Content octets ends) so (so (outside_of old.untaken)).says.0 octets.now ends (so (outside_of old.untaken)).says.1 (so (outside_of old.untaken)).says.2 (so (outside_of old.untaken)).says.3
       (λ outside. plain_owes setup (book_of outside old.inbound) frame plain (book_of outside inbound) (judged.Content octets ends) (so outside))

@@ -26,7 +26,8 @@ use Rattle.conduct.proofs.Telling.{book_told}
 use Rattle.offering.specs.State as offering
 use Rattle.serving.specs.Told.{Told}
 use Rattle.serving.specs.State as serving
-use Rattle.serving.specs.State.{Held, Due, id_of, without}
+use Rattle.serving.specs.Lines.{without}
+use Rattle.serving.specs.State.{Held, Due, id_of}
 use Rattle.header_blocks.specs.Encoding.{Encoding}
 use Rattle.tables.specs.Rule.{IsNoted}
 use Rattle.tables.specs.State as tables

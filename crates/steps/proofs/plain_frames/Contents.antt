@@ -26,6 +26,7 @@ use Rattle.h1_writer.specs.Sending.Stage.{Whole as WholeText}
 use Rattle.offering.specs.State as offering
 use Rattle.serving.specs.Rule.{IsServing}
 use Rattle.serving.specs.State as serving
+use Rattle.serving.specs.Lines.{least_idle}
 use Rattle.serving.specs.State.{Held, Way, Due, is_whole, held_of, held_with}
 use Rattle.serving.specs.State.Way.{Waiting, Going, Dropped}
 use Rattle.streams_kept.specs.Asked.{has, is_active}
@@ -198,6 +199,7 @@ module _ (setup : Setup) (old : View) (rest : IsAtRest old) (frame : Frame) (pla
             by : (way : Way) → GoesBy k.brief way → MayTake octets ends way
             by (Waiting route text stage body) goes = λ last. goes.may_end octets (length_right last)
             by (Going number stage) goes = record {
+              keep = goes.keep;
               parts = goes.parts;
               ended = false;
               text = goes.text;
@@ -243,12 +245,12 @@ module _ (setup : Setup) (old : View) (rest : IsAtRest old) (frame : Frame) (pla
         -- ---- it waits
 
         waiting_passes : (route : ℕ) (text : List ℕ) (stage : Stage) (body : List ℕ) → is_whole stage ≡ false → held_of frame.id s.requests.held ≡ Some (record { id = frame.id; way = Waiting route text stage body })
-            → (last : Bool) → ends ≡ last → (due : Due) (next : Option Way) (hs : List Held) → Gathers frame.id octets [] last route text stage body due next → hs ≡ held_with frame.id next old.upstreams.held
+            → (last : Bool) → ends ≡ last → (due : Due) (next : Option Way) (hs : List Held) → Gathers (lives old.upstreams.live) frame.id octets [] last route text stage body due next → hs ≡ held_with frame.id next old.upstreams.held
             → Passes setup old rest frame plain inbound table (taken (outside_of old.untaken)).left mild_so old.offers (upstream_then hs) old.marks 0 due s
         waiting_passes route text stage body part found false more due next hs gathers held_then =
             passes_by due hs gain_now
             (subst (λ x. Adds setup (told_by s) (noted_of frame) (Content octets x)) more adds, record { serving = serves gain_now; found = found; gathered = (refl, refl) })
-            (ap (λ x. let r : serving.State = record { held = held_with frame.id (if x then None else Some (Waiting route text stage (body ++ octets))) old.upstreams.held; live = lives old.upstreams.live; due = serving.to_open x frame.id route (text ++ []) stage; count = old.upstreams.count } in r) part
+            (ap (λ x. let r : serving.State = record { held = held_with frame.id (if x then None else Some (Waiting route text stage (body ++ octets))) old.upstreams.held; live = lives old.upstreams.live; due = serving.to_open x (least_idle route (lives old.upstreams.live)) frame.id route (text ++ []) stage; count = old.upstreams.count } in r) part
             ∙ ap (λ (hs : List Held). upstreams.with_due (upstream_then hs) Due.Nothing) (ap (λ (o : Option Way). held_with frame.id o old.upstreams.held) (sym gathers.1) ∙ sym held_then)
             ∙ ap (λ (d : Due). upstreams.with_due (upstream_then hs) d) (sym gathers.0))
           where
@@ -257,7 +259,7 @@ module _ (setup : Setup) (old : View) (rest : IsAtRest old) (frame : Frame) (pla
         waiting_passes route text stage body part found true last due next hs gathers held_then =
             passes_by due hs gain_now
             (subst (λ x. Adds setup (told_by s) (noted_of frame) (Content octets x)) last adds, record { serving = serves gain_now; found = found; gathered = (gathers.0.continues, refl) })
-            (ap (λ (hs : List Held). upstreams.with_due (upstream_then hs) (Due.ToOpen frame.id route (text ++ gathers.0.written) WholeText)) (ap (λ (o : Option Way). held_with frame.id o old.upstreams.held) (sym gathers.1) ∙ sym held_then)
+            (ap (λ (hs : List Held). upstreams.with_due (upstream_then hs) (serving.to_begin (least_idle route (lives old.upstreams.live)) frame.id route (text ++ gathers.0.written) WholeText)) (ap (λ (o : Option Way). held_with frame.id o old.upstreams.held) (sym gathers.1) ∙ sym held_then)
             ∙ ap (λ (d : Due). upstreams.with_due (upstream_then hs) d) (sym gathers.0.due_is))
           where
             gain_now : Gain
@@ -285,16 +287,16 @@ module _ (setup : Setup) (old : View) (rest : IsAtRest old) (frame : Frame) (pla
             passes_by due hs (Gain.Drops (Content octets ends)) (adds, record { serving = serves (Gain.Drops (Content octets ends)); found = found })
             (ap (λ (hs : List Held). upstreams.with_due (upstream_then hs) Due.Nothing) (sym same) ∙ ap (λ (d : Due). upstreams.with_due (upstream_then hs) d) (sym nothing))
 
-        content_passes : (due : Due) (hs : List Held) → TakesOf frame.id octets [] ends old.upstreams.held (held_of frame.id old.upstreams.held) due hs → Passes setup old rest frame plain inbound table (taken (outside_of old.untaken)).left mild_so old.offers (upstream_then hs) old.marks 0 due s
-        content_passes due hs takes = by held.way held.found held.goes (subst (λ (o : Option Held). TakesOf frame.id octets [] ends old.upstreams.held o due hs) held_found takes)
+        content_passes : (due : Due) (hs : List Held) → TakesOf (lives old.upstreams.live) frame.id octets [] ends old.upstreams.held (held_of frame.id old.upstreams.held) due hs → Passes setup old rest frame plain inbound table (taken (outside_of old.untaken)).left mild_so old.offers (upstream_then hs) old.marks 0 due s
+        content_passes due hs takes = by held.way held.found held.goes (subst (λ (o : Option Held). TakesOf (lives old.upstreams.live) frame.id octets [] ends old.upstreams.held o due hs) held_found takes)
           where
-            by : (way : Way) → held_of frame.id s.requests.held ≡ Some (record { id = frame.id; way = way }) → GoesBy k.brief way → TakesBy frame.id octets [] ends old.upstreams.held way due hs
+            by : (way : Way) → held_of frame.id s.requests.held ≡ Some (record { id = frame.id; way = way }) → GoesBy k.brief way → TakesBy (lives old.upstreams.live) frame.id octets [] ends old.upstreams.held way due hs
                 → Passes setup old rest frame plain inbound table (taken (outside_of old.untaken)).left mild_so old.offers (upstream_then hs) old.marks 0 due s
             by (Waiting route text stage body) found goes takes = waiting_passes route text stage body goes.part found ends refl due takes.0 hs takes.1 takes.2
             by (Going number stage) found goes takes = going_passes number stage found due takes.0 hs takes.1 takes.2
             by Dropped found goes takes = dropped_passes found due hs takes.0 takes.1
 
       -- Octets of its body are taken.
-      pub content_comes : (due : Due) (hs : List Held) → TakesOf frame.id octets [] ends old.upstreams.held (held_of frame.id old.upstreams.held) due hs → (outputs : List Output)
+      pub content_comes : (due : Due) (hs : List Held) → TakesOf (lives old.upstreams.live) frame.id octets [] ends old.upstreams.held (held_of frame.id old.upstreams.held) due hs → (outputs : List Output)
           → Brings setup old square outputs (coming frame) (record old { inbound = inbound; upstreams = record old.upstreams { held = hs } }) (record square { due = due; fresh = data_length is_any frame }) outputs
       content_comes due hs takes outputs = passes_with (record old.upstreams { held = hs }) due refl (λ run s leads. content_passes run s leads due hs takes) outputs

@@ -29,7 +29,8 @@ use Rattle.offering.specs.State as offering
 use Rattle.offering.specs.State.{Change}
 use Rattle.offering.proofs.Keeping.{answered_if_id, find_gone, find_without}
 use Rattle.serving.specs.State as serving
-use Rattle.serving.specs.State.{Held, Due, id_of, without}
+use Rattle.serving.specs.Lines.{without}
+use Rattle.serving.specs.State.{Held, Due, id_of}
 use Rattle.tables.specs.State as tables
 use Rattle.streams_kept.specs.Asked.{is_active, changed}
 use Rattle.judgement.specs.Inbound.{Inbound, Outside, book_of, told_of}

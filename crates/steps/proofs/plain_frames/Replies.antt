@@ -19,7 +19,8 @@ use Rattle.offering.specs.State as offering
 use Rattle.offering.specs.State.{Change, answered}
 use Rattle.offering.specs.Rule.{found_by}
 use Rattle.offering.proofs.Keeping.{find_changed, find_other, answered_id}
-use Rattle.serving.specs.State.{Held, Due, id_of, without}
+use Rattle.serving.specs.Lines.{without}
+use Rattle.serving.specs.State.{Held, Due, id_of}
 use Rattle.streams_kept.specs.Asked.{is_active, changed}
 use Rattle.judgement.proofs.BlockRows.{active_closed}
 use Rattle.judgement.specs.Inbound.{Inbound, Outside, book_of}

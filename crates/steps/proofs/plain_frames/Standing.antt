@@ -71,31 +71,53 @@ rows_none : (a b : Option Fault) → or_else a b ≡ None → a ≡ None
 rows_none None b e = refl
 rows_none (Some fault) b e = e
 
--- A frame of a stream that is judged by that, without a fault, is of an active stream.
-pub active_with : (b : Book) (frame : Frame) (kind : ℕ) → frame.kind ≡ kind → is_of_stream kind ≡ true → (kind == headers_kind) ≡ false → judged None (record frame { kind = kind }) ≡ Some kind → completed_in b.block frame ≡ None → length (ids_of b.rows) ≤ most_streams → fault_in (summary_in b) (coming frame) ≡ None
-    → is_active b.rows frame.id ≡ true
-active_with b frame kind is of no_headers is_judged completes few faultless =
-    active_at b frame.id kind of_stream no_headers (length (active_in s)) (standing_in s frame.id) (standing_tells s.stream s.opened frame.id few)
-    (sym (ap (λ (o : Option Partial). fault_on_in s frame.id (judged o frame)) completes ∙ ap (λ k. fault_on_in s frame.id (judged None (record frame { kind = k }))) is ∙ ap (λ (o : Option ℕ). fault_on_in s frame.id o) is_judged) ∙ none_at 16 (rows_in s (noted_of frame)) rows)
-  where
-    s : Summary
-    s = summary_in b
+-- a stream on which DATA passes wasn't ended by the client
+passes_open : (kind : ℕ) (us peer client gateway : Bool) → is_content kind ≡ true → fault_of (opened_verdict (if us then ResetByUs else (if peer then ResetByPeer else state_by_ends client gateway)) kind) ≡ None → client ≡ false
+passes_open kind us peer false gateway content passes = refl
+passes_open kind true peer true gateway content passes = cc
+passes_open kind false true true gateway content passes =
+    absurd (let no : Some (Connection stream_closed) ≡ None = ap (λ b. fault_of (if b then Verdict.Fails (Connection stream_closed) else Verdict.Fails Discarded)) (sym content) ∙ passes in cc)
+passes_open kind false false true true content passes =
+    absurd (let no : Some (Connection stream_closed) ≡ None = ap (λ b. fault_of (if b then Verdict.Fails (Connection stream_closed) else Verdict.Fails Discarded)) (sym content) ∙ passes in cc)
+passes_open kind false false true false content passes =
+    absurd (let no : Some (Stream stream_closed) ≡ None = ap (λ b. fault_of (if b then Verdict.Fails (Stream stream_closed) else Verdict.Passes)) (sym content) ∙ passes in cc)
 
-    rows : first_of (rows_in s (noted_of frame)) ≡ None
-    rows = rows_none (first_of (rows_in s (noted_of frame))) (malformed_in (s.stream frame.id).brief s (coming frame)) faultless
+module _ (b : Book) (frame : Frame) (kind : ℕ) (is : frame.kind ≡ kind) (of : is_of_stream kind ≡ true) (no_headers : (kind == headers_kind) ≡ false) (is_judged : judged None (record frame { kind = kind }) ≡ Some kind) (completes : completed_in b.block frame ≡ None) (few : length (ids_of b.rows) ≤ most_streams) (faultless : fault_in (summary_in b) (coming frame) ≡ None) where
+  abbrev told : Summary
+  told = summary_in b
 
-    of_stream : (frame.id == 0) ≡ false
-    of_stream = on (frame.id == 0) refl
-      where
-        on : (x : Bool) → (frame.id == 0) ≡ x → (frame.id == 0) ≡ false
-        on false e = e
-        on true e =
-            let placed : misplaced_in frame ≡ None = none_at 4 (rows_in s (noted_of frame)) rows in
-            let misplaced : is_misplaced frame ≡ true =
-            ap (λ k. is_misplaced (record frame { kind = k })) is
-            ∙ ap (λ x. (x && frame.id == 0) || (is_of_connection kind && not (frame.id == 0)) || kind == push_promise_kind || kind == headers_kind && frame.id % 2 == 0) of
-            ∙ ap (λ x. x || (is_of_connection kind && not (frame.id == 0)) || kind == push_promise_kind || kind == headers_kind && frame.id % 2 == 0) e in
-            absurd (let no : Some (Connection protocol_error) ≡ None = ap (λ x. fault_if x (Connection protocol_error)) (sym misplaced) ∙ placed in cc)
+  rows_faultless : first_of (rows_in told (noted_of frame)) ≡ None
+  rows_faultless = rows_none (first_of (rows_in told (noted_of frame))) (malformed_in (told.stream frame.id).brief told (coming frame)) faultless
+
+  of_stream : (frame.id == 0) ≡ false
+  of_stream = on (frame.id == 0) refl
+    where
+      on : (x : Bool) → (frame.id == 0) ≡ x → (frame.id == 0) ≡ false
+      on false e = e
+      on true e =
+          let placed : misplaced_in frame ≡ None = none_at 4 (rows_in told (noted_of frame)) rows_faultless in
+          let misplaced : is_misplaced frame ≡ true =
+          ap (λ k. is_misplaced (record frame { kind = k })) is
+          ∙ ap (λ x. (x && frame.id == 0) || (is_of_connection kind && not (frame.id == 0)) || kind == push_promise_kind || kind == headers_kind && frame.id % 2 == 0) of
+          ∙ ap (λ x. x || (is_of_connection kind && not (frame.id == 0)) || kind == push_promise_kind || kind == headers_kind && frame.id % 2 == 0) e in
+          absurd (let no : Some (Connection protocol_error) ≡ None = ap (λ x. fault_if x (Connection protocol_error)) (sym misplaced) ∙ placed in cc)
+
+  passes : fault_of (verdict (length (active_in told)) (standing_in told frame.id) kind) ≡ None
+  passes =
+      sym (ap (λ (o : Option Partial). fault_on_in told frame.id (judged o frame)) completes ∙ ap (λ k. fault_on_in told frame.id (judged None (record frame { kind = k }))) is ∙ ap (λ (o : Option ℕ). fault_on_in told frame.id o) is_judged)
+      ∙ none_at 16 (rows_in told (noted_of frame)) rows_faultless
+
+  -- A frame of a stream that is judged by that, without a fault, is of an active stream.
+  pub active_with : is_active b.rows frame.id ≡ true
+  active_with = active_at b frame.id kind of_stream no_headers (length (active_in told)) (standing_in told frame.id) (standing_tells told.stream told.opened frame.id few) passes
+
+  -- DATA is of one that the client hasn't ended.
+  pub open_with : is_content kind ≡ true → (find b.rows frame.id).ended_by_client ≡ false
+  open_with content =
+      let k : Kept = find b.rows frame.id in
+      let there : has b.rows frame.id ≡ true = (and_parts (has b.rows frame.id) (not (is_over_in k)) active_with).0 in
+      passes_open kind k.reset_by_gateway k.reset_by_client k.ended_by_client k.ended_by_gateway content
+      (ap (λ (found : Standing). fault_of (verdict (length (active_in told)) found kind)) (sym (opened_standing b.rows frame.id of_stream there)) ∙ passes)
 
 -- ---- what is discarded
 

@@ -20,12 +20,14 @@ use Rattle.streams_kept.specs.Asked.{is_active, changed}
 use Rattle.judgement.specs.declared.answers.Fault.TheVariants as fault
 use Rattle.judgement.specs.declared.answers.BlockJudged.{BlockJudged}
 use Rattle.judgement.specs.declared.answers.BlockJudged.TheVariants as judged
+use Rattle.upstreams.specs.Connections.{lives}
 use Rattle.upstreams.specs.Kept as upstreams
 use Rattle.upstreams.specs.Kept.{Begins}
 use Rattle.upstreams.specs.Requests.{due_by, MayTakeOf, Takes}
 use Rattle.relay.specs.View.{View, waiting_for}
 use Rattle.steps.specs.Stopping.{reset_marked}
 use Rattle.steps.specs.block_frames.Following.{followed, forgotten, dropped_by, with_farewell, put_farewell, IsCalmedBehind}
+use Rattle.steps.specs.declared.block_frames.outlet.Outlet.{Outlet}
 use Rattle.steps.specs.declared.block_frames.taking.BlockTaken.{BlockTaken}
 use Rattle.steps.specs.declared.block_frames.taking.BlockTaken.TheVariants as taken
 
@@ -64,15 +66,15 @@ IsReplied true (Some code) id cause last old outputs answer new put_out =
     IsReset id code last (record old { inbound = record old.inbound { rows = changed id (Over true) old.inbound.rows } }) outputs answer new put_out
 IsReplied _ _ id cause last old outputs answer new put_out = IsOffered id cause last old outputs answer new put_out
 
--- what is answered of a request that begins, and goes out at once or doesn't, with this farewell, and octets that go back
-abbrev pub IsBegun : ℕ → ℕ → HeadParts → Bool → Bool → Option ℕ → ℕ → upstreams.State → BlockTaken → upstreams.State → Type 0
-IsBegun id route parts ended at_once last back old (taken.Fatal code) new = ⊥
-IsBegun id route parts ended at_once last back old (taken.Goes due farewell dropped) new =
-    Begins old id route parts ended at_once (due_by due) new × (farewell ≡ last) × (dropped ≡ back)
+-- what is answered of a request that begins, and goes out so, with this farewell, and octets that go back
+abbrev pub IsBegun : ℕ → ℕ → HeadParts → Bool → Outlet → Option ℕ → ℕ → upstreams.State → BlockTaken → upstreams.State → Type 0
+IsBegun id route parts ended outlet last back old (taken.Fatal code) new = ⊥
+IsBegun id route parts ended outlet last back old (taken.Goes due farewell dropped) new =
+    Begins old id route outlet.keep parts ended outlet.at_once (due_by due) new × (farewell ≡ last) × (dropped ≡ back)
 
 -- A request began.
-pub record HasBegun (id route : ℕ) (parts : HeadParts) (at_once : Bool) (last : Option ℕ) (old : View) (outputs : List Output) (answer : BlockTaken) (new : View) (put_out : List Output) : Type 0 where
-  pub begun : IsBegun id route parts (find old.inbound.rows id).ended_by_client at_once last (dropped_by id old) (followed id old).upstreams answer new.upstreams
+pub record HasBegun (id route : ℕ) (parts : HeadParts) (outlet : Outlet) (last : Option ℕ) (old : View) (outputs : List Output) (answer : BlockTaken) (new : View) (put_out : List Output) : Type 0 where
+  pub begun : IsBegun id route parts (find old.inbound.rows id).ended_by_client outlet last (dropped_by id old) (followed id old).upstreams answer new.upstreams
   pub kept : new ≡ record (followed id old) { upstreams = new.upstreams }
   pub puts : put_out ≡ outputs
 
@@ -85,19 +87,19 @@ GoesWith due last (taken.Goes answer farewell dropped) = (due_by answer ≡ due)
 pub record HasEnded (id : ℕ) (trailers : List Field) (last : Option ℕ) (old : View) (outputs : List Output) (answer : BlockTaken) (new : View) (put_out : List Output) : Type 0 where
   pub due : Due
   pub goes : GoesWith due last answer
-  pub takes : Takes id [] trailers true old.upstreams.held (held_of id old.upstreams.held) due new.upstreams.held
+  pub takes : Takes (lives old.upstreams.live) id [] trailers true old.upstreams.held (held_of id old.upstreams.held) due new.upstreams.held
   pub kept : new ≡ record old { upstreams = record old.upstreams { held = new.upstreams.held } }
   pub puts : put_out ≡ outputs
 
 -- All that is done by an answer, with the farewell that is owed.
-abbrev pub IsActed : ℕ → Bool → BlockJudged → Option ℕ → View → List Output → BlockTaken → View → List Output → Type 0
-IsActed id at_once (judged.Failed (fault.Connection code)) last old outputs answer new put_out = Ends code answer × (new ≡ old) × (put_out ≡ outputs)
-IsActed id at_once (judged.Failed (fault.Stream code)) last old outputs answer new put_out = IsReset id code last old outputs answer new put_out
-IsActed id at_once (judged.Begins head route) last old outputs answer new put_out = HasBegun id route head at_once last old outputs answer new put_out
-IsActed id at_once (judged.Answered cause) last old outputs answer new put_out =
+abbrev pub IsActed : ℕ → Outlet → BlockJudged → Option ℕ → View → List Output → BlockTaken → View → List Output → Type 0
+IsActed id outlet (judged.Failed (fault.Connection code)) last old outputs answer new put_out = Ends code answer × (new ≡ old) × (put_out ≡ outputs)
+IsActed id outlet (judged.Failed (fault.Stream code)) last old outputs answer new put_out = IsReset id code last old outputs answer new put_out
+IsActed id outlet (judged.Begins head route) last old outputs answer new put_out = HasBegun id route head outlet last old outputs answer new put_out
+IsActed id outlet (judged.Answered cause) last old outputs answer new put_out =
     IsReplied (find old.inbound.rows id).head_out (model.reset_code (cause_of cause)) id (cause_of cause) last old outputs answer new put_out
-IsActed id at_once (judged.Trailers trailers) last old outputs answer new put_out = HasEnded id trailers.items last old outputs answer new put_out
-IsActed id at_once other last old outputs answer new put_out = IsFollowed id last old outputs answer new put_out
+IsActed id outlet (judged.Trailers trailers) last old outputs answer new put_out = HasEnded id trailers.items last old outputs answer new put_out
+IsActed id outlet other last old outputs answer new put_out = IsFollowed id last old outputs answer new put_out
 
 -- The stream would be reset, as a final head is out, and the connection was ended in place of one of the frames.
 abbrev pub IsCutShort : Bool → Option ℕ → ℕ → Option ℕ → View → List Output → List Output → Type 0

@@ -11,7 +11,8 @@ use Rattle.conduct.specs.Rows.{Row, ids_of}
 use Rattle.offering.specs.State as offering
 use Rattle.offering.specs.State.{blank}
 use Rattle.offers.specs.Asked.{is_kept, is_above_all}
-use Rattle.serving.specs.State.{Held, id_of, without}
+use Rattle.serving.specs.Lines.{without}
+use Rattle.serving.specs.State.{Held, id_of}
 use Rattle.streams_kept.specs.Asked.{is_active}
 use Rattle.streams_kept.specs.Sending.{is_served}
 use Rattle.marks_kept.specs.Sides.{Side}

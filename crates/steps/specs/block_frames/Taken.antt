@@ -1,6 +1,7 @@
 -- What comes of a frame of the client with a fragment of a header block.
 use Rattle.std.specs.Prelude.{◌≡◌, ◌⊎◌, ℕ, true, nat_lt, List, Option, Some, is_some}
 use Rattle.model.specs.Admission.{most_untaken}
+use Rattle.serving.specs.State.{is_streaming}
 use Rattle.serving.specs.State.Due.{Nothing}
 use Rattle.model.specs.Frames.{Frame}
 use Rattle.model.specs.Logs.{Output}
@@ -22,6 +23,7 @@ use Rattle.relay.specs.Rest.{NoneCut}
 use Rattle.relay.specs.Bringing.{Brings}
 use Rattle.steps.specs.Closings.{IsAbout}
 use Rattle.steps.specs.block_frames.Following.{farewell_frames}
+use Rattle.steps.specs.declared.block_frames.outlet.Outlet.{Outlet}
 use Rattle.steps.specs.declared.block_frames.taking.BlockTaken.{BlockTaken}
 use Rattle.steps.specs.declared.block_frames.taking.BlockTaken.TheVariants as taken
 
@@ -47,6 +49,11 @@ pub record IsFatalFrame (setup : Setup) (old : View) (outputs : List Output) (fr
   pub next : Table
   pub fault : (run : List Move) (s : State) → Leads setup run old square s → fault_in (told_by s) (Came (record { frame = frame; note = note })) ≡ Some (Connection code)
   pub fatal : (run : List Move) (s : State) → Leads setup run old square s → IsFatal s (record { frame = frame; note = note }) next
+
+-- Requests go out as the setup says.
+pub record IsOutlet (setup : Setup) (outlet : Outlet) : Type 0 where
+  pub at_once : outlet.at_once ≡ is_streaming setup.passing
+  pub keep : outlet.keep ≡ setup.keep
 
 -- What was answered is so.
 abbrev pub IsBlockTaken : Setup → View → List Output → Frame → BlockTaken → View → List Output → Type 0

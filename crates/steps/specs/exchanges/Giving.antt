@@ -13,7 +13,8 @@ use Rattle.conduct.specs.Rows.Slot.{Over}
 use Rattle.offering.specs.State.{change, answered}
 use Rattle.offering.specs.State as offering
 use Rattle.offers.specs.Asked.{is_cut}
-use Rattle.serving.specs.State.{id_of, without, drop_from}
+use Rattle.serving.specs.Lines.{without}
+use Rattle.serving.specs.State.{id_of, drop_from}
 use Rattle.streams_kept.specs.Asked.{changed}
 use Rattle.streams_kept.specs.Sending.{failed}
 use Rattle.judgement.specs.Sending.{with_kept}

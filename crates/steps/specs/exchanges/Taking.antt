@@ -1,12 +1,14 @@
 -- What octets of an upstream come to, and the end of its connection: its answer goes on, and what is news of it is on offer.
-use Rattle.std.specs.Prelude.{◌≡◌, ℕ, List, map, Some}
+use Rattle.std.specs.Prelude.{◌≡◌, ℕ, false, if◌then◌else◌, List, map, Option, Some, None}
 use Rattle.answers.specs.Waiting.{Answer}
 use Rattle.answers.specs.declared.answer.Heard.{Heard}
+use Rattle.answers.specs.declared.answer.Heard.TheVariants as heard
+use Rattle.answers.specs.declared.answer.Passing.TheVariants.{Streaming}
 use Rattle.answers.specs.declared.answer.Ended.{Ended}
 use Rattle.offering.specs.State as offering
 use Rattle.offers.specs.Changes.{IsHeardFor, IsEndedFor}
-use Rattle.serving.specs.State.{find}
-use Rattle.upstreams.specs.Connections.{Connection, number_of, answer_at}
+use Rattle.serving.specs.Lines.{find, Line, is_idle}
+use Rattle.upstreams.specs.Connections.{Connection, number_of, answer_at, fresh}
 use Rattle.relay.specs.View.{View}
 
 -- all that is kept, where these are the offers, and a connection's answer is this
@@ -20,6 +22,15 @@ answered_with k answer offers kept = record {
   untaken = kept.untaken;
 }
 
+-- the stream that a connection works for: none where it is idle
+abbrev pub served_by : Line → Option ℕ
+served_by l = if is_idle l.answer then None else Some l.stream
+
+-- what is left of an answer that was lent out: nothing, once it is over
+abbrev pub left_of : Heard → Answer → Answer
+left_of heard.GoesOn answer = answer
+left_of _ answer = fresh false Streaming
+
 -- The octets come to this, on the open connection with this number.
 pub record AreTaken (old : View) (k : ℕ) (octets : List ℕ) (heard : Heard) (new : View) : Type 0 where
   pub connection : Connection
@@ -27,13 +38,12 @@ pub record AreTaken (old : View) (k : ℕ) (octets : List ℕ) (heard : Heard) (
   pub answer : Answer
   pub offers : offering.State
   pub hears : IsHeardFor old.offers connection.live.stream connection.answer octets heard answer offers
-  pub is : new ≡ answered_with k answer offers old
+  pub is : new ≡ answered_with k (left_of heard answer) offers old
 
 -- So does its end.
 pub record IsEndTaken (old : View) (k : ℕ) (ended : Ended) (new : View) : Type 0 where
   pub connection : Connection
   pub found : find number_of k old.upstreams.live ≡ Some connection
-  pub answer : Answer
   pub offers : offering.State
   pub ends : IsEndedFor old.offers connection.live.stream connection.answer ended offers
-  pub is : new ≡ answered_with k answer offers old
+  pub is : new ≡ answered_with k (fresh false Streaming) offers old

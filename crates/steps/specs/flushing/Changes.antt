@@ -15,7 +15,7 @@ use Rattle.conduct.specs.Rows.Slot.{Over}
 use Rattle.offering.specs.Outbox.{Part}
 use Rattle.offering.specs.Outbox.Part.{Early, Final, Octets, Trailing}
 use Rattle.offering.specs.State as offering
-use Rattle.serving.specs.State as serving
+use Rattle.serving.specs.Lines.{without}
 use Rattle.serving.specs.State.{id_of}
 use Rattle.header_blocks.specs.Encoding.{Encoding}
 use Rattle.header_blocks.specs.Encodes.{IsWrittenBy}
@@ -44,7 +44,7 @@ part_gone id part kept window encoding count u = record u {
 abbrev pub let_go : ℕ → View → View
 let_go id u = record u {
   offers = record u.offers { kept = offering.without id u.offers.kept };
-  upstreams = record u.upstreams { held = serving.without id_of id u.upstreams.held };
+  upstreams = record u.upstreams { held = without id_of id u.upstreams.held };
   marks = marks.without id u.marks;
 }
 

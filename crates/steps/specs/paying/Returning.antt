@@ -4,6 +4,7 @@ use Rattle.conduct.specs.Rows.{Row, find}
 use Rattle.streams_kept.specs.Asked.{has, is_active}
 use Rattle.streams_kept.specs.Sending.{given_back, is_served}
 use Rattle.judgement.specs.Sending.{with_kept}
+use Rattle.marks_kept.specs.declared.marks.Taken.{Taken}
 use Rattle.relay.specs.View.{View, Pending, square}
 use Rattle.relay.specs.Rest.{GoesOn}
 
@@ -11,9 +12,13 @@ use Rattle.relay.specs.Rest.{GoesOn}
 abbrev pub own_of : ℕ → ℕ → ℕ → ℕ
 own_of id count other = if id == other then count else 0
 
--- so many octets are to go back, on the connection and on a stream, and nothing else is pending
-abbrev pub back_on : ℕ → ℕ → Pending
-back_on id count = record square { shared = count; own = own_of id count }
+-- Octets that a side took are to go back: all on the connection, and on the stream that it was given to last its own; and nothing else is pending.
+abbrev pub back_on : ℕ → Taken → Pending
+back_on id taken = record square { shared = taken.own + taken.older; own = own_of id taken.own }
+
+-- and then those of the stream alone, once the connection has all
+abbrev pub due_on_stream : ℕ → ℕ → Pending
+due_on_stream id count = record square { own = own_of id count }
 
 -- they go back on a stream: it is active, and the client hasn't ended it
 abbrev pub goes_back_on : List Row → ℕ → Bool

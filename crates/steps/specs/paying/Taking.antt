@@ -1,9 +1,9 @@
 -- What the side of a connection takes, and what is kept and goes back then.
-use Rattle.std.specs.Prelude.{◌≡◌, ℕ, ◌+◌, ◌≤◌, List, map, Some}
+use Rattle.std.specs.Prelude.{◌≡◌, ℕ, ◌+◌, ◌≤◌, List, map, Option, Some, None}
 use Rattle.receiving.specs.Marks.{released}
-use Rattle.serving.specs.State.{find}
+use Rattle.serving.specs.Lines.{find}
 use Rattle.upstreams.specs.Connections.{Connection, number_of, taken_at}
-use Rattle.marks_kept.specs.Sides.{change, taking, took_of, queue_of}
+use Rattle.marks_kept.specs.Sides.{queue_of, released_behind, taken_of_all}
 use Rattle.relay.specs.View.{View}
 
 -- The connection is open, and so many octets that were put out for it weren't taken.
@@ -12,10 +12,22 @@ pub record MayBeTaken (live : List Connection) (k count : ℕ) : Type 0 where
   pub found : find number_of k live ≡ Some connection
   pub within : connection.took + count ≤ connection.out
 
--- what is kept where the side of a stream's connection took so many octets more
-abbrev pub with_taken : ℕ → ℕ → ℕ → View → View
-with_taken k stream count kept = record kept { upstreams = record kept.upstreams { live = map (taken_at k count) kept.upstreams.live }; marks = change stream (taking count) kept.marks }
+-- how many octets the side of a connection took, if it is open
+abbrev pub took_if : Option Connection → ℕ
+took_if None = 0
+took_if (Some connection) = connection.took
 
--- the octets of the stream's DATA that no longer wait then
-abbrev pub released_for : ℕ → ℕ → View → ℕ
-released_for stream count kept = released (took_of stream kept.marks + count) (queue_of stream kept.marks)
+-- how many it took where it takes so many more
+abbrev pub took_then : ℕ → ℕ → View → ℕ
+took_then k count kept = took_if (find number_of k kept.upstreams.live) + count
+
+-- what is kept where the side of a connection, which was given to this stream last, took so many octets more
+abbrev pub with_taken : ℕ → ℕ → ℕ → View → View
+with_taken k stream count kept = record kept { upstreams = record kept.upstreams { live = map (taken_at k count) kept.upstreams.live }; marks = taken_of_all stream k (took_then k count kept) kept.marks }
+
+-- the octets of the stream's DATA that no longer wait then, and those of streams that had the connection before
+abbrev pub own_released : ℕ → ℕ → ℕ → View → ℕ
+own_released k stream count kept = released (took_then k count kept) (queue_of stream kept.marks)
+
+abbrev pub older_released : ℕ → ℕ → View → ℕ
+older_released k count kept = released_behind k (took_then k count kept) kept.marks

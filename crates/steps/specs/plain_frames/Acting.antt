@@ -12,7 +12,8 @@ use Rattle.model.specs.ErrorClause.{rst_stream, ping_ack}
 use Rattle.conduct.specs.Rows.{Row, find}
 use Rattle.conduct.specs.Rows.Slot.{Over}
 use Rattle.offering.specs.State.{change, answered}
-use Rattle.serving.specs.State.{Due, id_of, held_of, without}
+use Rattle.serving.specs.Lines.{without}
+use Rattle.serving.specs.State.{Due, id_of, held_of}
 use Rattle.serving.specs.State.Due.{Nothing}
 use Rattle.steps.specs.paying.Controls.{MayPay}
 use Rattle.settings.specs.declared.Change.{Change}
@@ -20,6 +21,7 @@ use Rattle.streams_kept.specs.Asked.{is_active, changed}
 use Rattle.judgement.specs.declared.answers.Fault.TheVariants as fault
 use Rattle.judgement.specs.declared.answers.Judged.{Judged}
 use Rattle.judgement.specs.declared.answers.Judged.TheVariants as judged
+use Rattle.upstreams.specs.Connections.{lives}
 use Rattle.upstreams.specs.Requests.{due_by, MayTakeOf, Takes}
 use Rattle.relay.specs.View.{View, Pending, waiting_for}
 use Rattle.relay.specs.Bringing.{PerformsOwn}
@@ -77,7 +79,7 @@ IsSet change old outputs answer new put_out =
 pub record IsContent (ends : Bool) (id : ℕ) (octets : List ℕ) (old : View) (answer : Taken) (new : View) : Type 0 where
   pub due : Due
   pub goes : Goes due 0 answer
-  pub takes : Takes id octets [] ends old.upstreams.held (held_of id old.upstreams.held) due new.upstreams.held
+  pub takes : Takes (lives old.upstreams.live) id octets [] ends old.upstreams.held (held_of id old.upstreams.held) due new.upstreams.held
   pub kept : new ≡ record old { upstreams = record old.upstreams { held = new.upstreams.held } }
 
 -- Where items may come yet they did; else nothing is done.

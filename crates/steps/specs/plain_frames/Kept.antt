@@ -1,7 +1,8 @@
 -- What is kept where a stream is over, or a client names limits of its header table.
 use Rattle.std.specs.Prelude.{ℕ, List}
 use Rattle.offering.specs.State as offering
-use Rattle.serving.specs.State.{id_of, without}
+use Rattle.serving.specs.Lines.{without}
+use Rattle.serving.specs.State.{id_of}
 use Rattle.marks_kept.specs.Sides as marks
 use Rattle.tables.specs.State.{limits_and}
 use Rattle.header_blocks.specs.Encoding.{Encoding}

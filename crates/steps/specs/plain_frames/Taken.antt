@@ -1,5 +1,5 @@
 -- What comes of a frame of the client without a fragment of a header block.
-use Rattle.std.specs.Prelude.{◌≡◌, ℕ, List, Some}
+use Rattle.std.specs.Prelude.{◌≡◌, ◌<◌, ℕ, false, List, Some}
 use Rattle.model.specs.Frames.{Frame}
 use Rattle.model.specs.Logs.{Output}
 use Rattle.model.specs.Setup.{Setup}
@@ -11,6 +11,7 @@ use Rattle.conduct.specs.Quiet.{noted_of}
 use Rattle.conduct.specs.Rows.{ids_of}
 use Rattle.upstreams.specs.Requests.{due_by}
 use Rattle.upstreams.specs.declared.held.Due.{Due}
+use Rattle.marks_kept.specs.Sides.{is_past}
 use Rattle.policy.specs.Moves.{Move}
 use Rattle.policy.specs.State.{State}
 use Rattle.policy.specs.Steps.{told_by}
@@ -24,12 +25,14 @@ use Rattle.steps.specs.declared.plain_frames.taking.Taken.TheVariants as taken
 
 -- The connection goes on: the frame came, all that it calls for was sent, and a request or a text may be due; its octets of DATA go back once its
 -- effect is over, and so do these that waited of a stream that is over. It was about its stream alone; no stream is opened, and it was the last frame's stream.
+-- If it has such octets, its stream's connection wasn't given to another since.
 pub record IsPassed (setup : Setup) (old : View) (outputs : List Output) (frame : Frame) (due : Due) (dropped : ℕ) (new : View) (put_out : List Output) : Type 0 where
   pub brings : Brings setup old square outputs (Came (noted_of frame)) new (record square { due = due_by due; fresh = data_length is_any frame; shared = dropped }) put_out
   pub none_cut : NoneCut new.offers
   pub about : IsAbout frame.id old new
   pub ids : ids_of new.inbound.rows ≡ ids_of old.inbound.rows
   pub last : new.inbound.last ≡ frame.id
+  pub newest : 0 < data_length is_any frame → is_past frame.id new.marks ≡ false
 
 -- The frame is an error of the connection with this code. Nothing is put out yet, and all that the end needs is as it was.
 pub record IsFatalFrame (setup : Setup) (old : View) (outputs : List Output) (frame : Frame) (code : ℕ) (new : View) (put_out : List Output) : Type 0 where

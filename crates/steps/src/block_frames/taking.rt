@@ -9,7 +9,7 @@ ghost use Rattle.frames.specs.Views.{frame_of};
 ghost use Rattle.streams_kept.specs.Asked.{is_active};
 ghost use Rattle.judgement.specs.Blocks.{IsFor};
 ghost use Rattle.judgement.specs.Fragments.{IsOfBlock};
-ghost use Rattle.serving.specs.State.{held_of, is_streaming};
+ghost use Rattle.serving.specs.State.{held_of};
 ghost use Rattle.upstreams.specs.Requests.{MayTakeOf};
 ghost use Rattle.relay.specs.View.{square};
 ghost use Rattle.relay.specs.Rest.{IsAtRest, Reached};
@@ -18,9 +18,10 @@ ghost use Rattle.steps.specs.Inputs.Input.{OfFrame};
 ghost use Rattle.steps.specs.Stopping.{IfOver};
 ghost use Rattle.steps.specs.block_frames.Following.{IsCalmedBehind, IsNewest};
 ghost use Rattle.steps.specs.block_frames.Acting.{HasBegun, HasEnded, IsActed, IsCutShort, IsFollowed, IsReplied, IsReset, IsStopped, MayAct, MayBegin};
-ghost use Rattle.steps.specs.block_frames.Taken.{IsBlockTaken};
+ghost use Rattle.steps.specs.block_frames.Taken.{IsBlockTaken, IsOutlet};
 
 use crate::block_frames::doing::{farewell_behind, follow, has_ended, head_out, reset};
+use crate::block_frames::outlet::Outlet;
 use crate::crowding::is_crowded;
 use crate::stop::Stop;
 use causes::Cause;
@@ -93,17 +94,20 @@ fn begin(
     id: u32,
     head: &RequestHead,
     route: u32,
-    at_once: bool,
+    outlet: Outlet,
     farewell: Option<u32>,
     out: &mut Outputs,
 ) -> Result<BlockTaken, AllocError>
     requires newest { IsNewest (is_active rooms.old.inbound.rows id) id rooms.old.offers }
     requires may { MayBegin id head.now rooms.old }
-    ensures { IfOk result (λ taken. HasBegun id route head.now at_once farewell rooms.old out.old taken rooms.new out.new) }
+    ensures { IfOk result (λ taken. HasBegun id route head.now outlet farewell rooms.old out.old taken rooms.new out.new) }
 {
     let ended = has_ended(&rooms.inbound, id);
     let dropped = follow(rooms, id)?;
-    let due = rooms.upstreams.begin(id, route, head, ended, at_once)?;
+    let Outlet { at_once, keep } = outlet;
+    let due = rooms
+        .upstreams
+        .begin(id, route, head, ended, keep, at_once)?;
     Ok(BlockTaken::Goes {
         due,
         farewell,
@@ -163,7 +167,7 @@ fn finish(
 fn act(
     rooms: &mut Rooms,
     id: u32,
-    at_once: bool,
+    outlet: Outlet,
     answer: BlockJudged,
     farewell: Option<u32>,
     out: &mut Outputs,
@@ -171,14 +175,14 @@ fn act(
     requires newest { IsNewest (is_active rooms.old.inbound.rows id) id rooms.old.offers }
     requires may { MayAct id answer rooms.old }
     requires of_stream { id < 2147483648 }
-    ensures taken { IfOk result (λ taken. IsActed id at_once answer farewell rooms.old out.old taken rooms.new out.new) }
+    ensures taken { IfOk result (λ taken. IsActed id outlet answer farewell rooms.old out.old taken rooms.new out.new) }
     ensures over { IfErr result (λ stop. IfOver stop (IsStopped id answer farewell rooms.old out.old out.new)) }
 {
     match answer {
         BlockJudged::Failed(Fault::Connection(code)) => Ok(BlockTaken::Fatal(code)),
         BlockJudged::Failed(Fault::Stream(code)) => refuse(rooms, id, code, farewell, out),
         BlockJudged::Begins { head, route } => {
-            Ok(begin(rooms, id, &head, route, at_once, farewell, out)?)
+            Ok(begin(rooms, id, &head, route, outlet, farewell, out)?)
         },
         BlockJudged::Answered(cause) => reply(rooms, id, cause, farewell, out),
         BlockJudged::Trailers(trailers) => Ok(finish(rooms, id, &trailers, farewell, out)?),
@@ -196,7 +200,7 @@ pub fn take_block(
     rooms: &mut Rooms,
     view: View<'_>,
     terms: Terms<'_>,
-    at_once: bool,
+    outlet: Outlet,
     out: &mut Outputs,
 ) -> Result<BlockTaken, Stop>
     requires kind { IsOfBlock (frame_of view) }
@@ -204,13 +208,13 @@ pub fn take_block(
     requires few { length terms.routes.now ≤ u32.MAX }
     requires of_stream { view.id < 2147483648 }
     requires rest { IsAtRest rooms.old }
-    requires reached { (setup : Setup) × IsFor setup terms × (at_once ≡ is_streaming setup.passing) × Reached setup rooms.old square }
-    ensures taken { IfOk result (λ taken. (setup : Setup) → IsFor setup terms.entry → at_once ≡ is_streaming setup.passing → IsBlockTaken setup rooms.old out.old (frame_of view.entry) taken rooms.new out.new) }
-    ensures over { IfErr result (λ stop. IfOver stop ((setup : Setup) → IsFor setup terms.entry → at_once ≡ is_streaming setup.passing → ComesFrom setup rooms.old square out.old (OfFrame (frame_of view.entry) ∷ []) square None out.new)) }
+    requires reached { (setup : Setup) × IsFor setup terms × IsOutlet setup outlet × Reached setup rooms.old square }
+    ensures taken { IfOk result (λ taken. (setup : Setup) → IsFor setup terms.entry → IsOutlet setup outlet → IsBlockTaken setup rooms.old out.old (frame_of view.entry) taken rooms.new out.new) }
+    ensures over { IfErr result (λ stop. IfOver stop ((setup : Setup) → IsFor setup terms.entry → IsOutlet setup outlet → ComesFrom setup rooms.old square out.old (OfFrame (frame_of view.entry) ∷ []) square None out.new)) }
 {
     let before = rooms.inbound.streams().count();
     let crowded = is_crowded(rooms);
     let answer = rooms.inbound.judge_fragment(view, crowded, terms)?;
     let farewell = farewell_behind(before, rooms.inbound.streams());
-    act(rooms, view.id, at_once, answer, farewell, out)
+    act(rooms, view.id, outlet, answer, farewell, out)
 }

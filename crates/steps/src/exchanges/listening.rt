@@ -5,12 +5,12 @@ ghost use Rattle.model.specs.Logs.Act.{Close};
 ghost use Rattle.model.specs.Logs.Output.{Does};
 ghost use Rattle.model.specs.Tapes.{put};
 ghost use Rattle.offers.specs.Asked.{is_kept};
-ghost use Rattle.serving.specs.State.{find};
+ghost use Rattle.serving.specs.Lines.{find};
 ghost use Rattle.streams_kept.specs.Asked.{is_active};
 ghost use Rattle.upstreams.specs.Connections.{number_of};
 ghost use Rattle.steps.specs.Stopping.{IfOver, IsCalmed};
 ghost use Rattle.steps.specs.exchanges.Giving.{closed_at, is_cut_then, replied_to, IsAbandoned};
-ghost use Rattle.steps.specs.exchanges.Taking.{AreTaken, IsEndTaken};
+ghost use Rattle.steps.specs.exchanges.Taking.{served_by, AreTaken, IsEndTaken};
 
 use crate::exchanges::failing::give_up;
 use crate::stop::Stop;
@@ -30,37 +30,58 @@ pub(crate) fn stream_of(rooms: &Rooms, k: u32) -> u32
     connection.stream()
 }
 
-/// Octets of an upstream go to its answer, which is lent out for that. An `Err` says that memory was refused.
+/// The stream that an open connection works for: none where it is idle.
+pub(crate) fn served_by(rooms: &Rooms, k: u32) -> Option<u32>
+    requires { is_some (find number_of k rooms.now.upstreams.live) ≡ true }
+    ensures { IfSome (find number_of k rooms.now.upstreams.live) (λ connection. result ≡ served_by connection.live) }
+{
+    let Some(connection) = rooms.upstreams.find(k) else {
+        unreachable!();
+    };
+    if connection.is_idle() {
+        return None;
+    }
+    Some(connection.stream())
+}
+
+/// Octets of an upstream go to its answer, which is lent out for that, and put back where its response goes on: of one that is over nothing is kept. An
+/// `Err` says that memory was refused.
 pub(crate) fn take_octets(
     alloc: Global,
     rooms: &mut Rooms,
     k: u32,
+    stream: u32,
     octets: &[u8],
 ) -> Result<Heard, AllocError>
     requires opened { is_some (find number_of k rooms.old.upstreams.live) ≡ true }
-    requires kept { IfSome (find number_of k rooms.old.upstreams.live) (λ connection. is_kept connection.live.stream rooms.old.offers.kept ≡ true) }
+    requires of { IfSome (find number_of k rooms.old.upstreams.live) (λ connection. stream ≡ connection.live.stream) }
+    requires kept { is_kept stream rooms.old.offers.kept ≡ true }
     ensures { IfOk result (λ heard. AreTaken rooms.old k octets.now heard rooms.new) }
 {
-    let stream = stream_of(rooms, k);
     let nothing = Answer::new(alloc, false, Passing::Streaming);
     let mut answer = rooms.upstreams.replace_answer(k, nothing);
     let heard = rooms.offers.hear(stream, &mut answer, octets)?;
-    rooms.upstreams.replace_answer(k, answer);
+    if let Heard::GoesOn = heard {
+        rooms.upstreams.replace_answer(k, answer);
+    }
     Ok(heard)
 }
 
-/// The end of an upstream's connection goes to its answer, which is lent out for that. An `Err` says that memory was refused.
-pub(crate) fn take_end(alloc: Global, rooms: &mut Rooms, k: u32) -> Result<Ended, AllocError>
+/// The end of an upstream's connection goes to its answer, of which nothing is kept behind it. An `Err` says that memory was refused.
+pub(crate) fn take_end(
+    alloc: Global,
+    rooms: &mut Rooms,
+    k: u32,
+    stream: u32,
+) -> Result<Ended, AllocError>
     requires opened { is_some (find number_of k rooms.old.upstreams.live) ≡ true }
-    requires kept { IfSome (find number_of k rooms.old.upstreams.live) (λ connection. is_kept connection.live.stream rooms.old.offers.kept ≡ true) }
+    requires of { IfSome (find number_of k rooms.old.upstreams.live) (λ connection. stream ≡ connection.live.stream) }
+    requires kept { is_kept stream rooms.old.offers.kept ≡ true }
     ensures { IfOk result (λ ended. IsEndTaken rooms.old k ended rooms.new) }
 {
-    let stream = stream_of(rooms, k);
     let nothing = Answer::new(alloc, false, Passing::Streaming);
     let mut answer = rooms.upstreams.replace_answer(k, nothing);
-    let ended = rooms.offers.end(stream, &mut answer)?;
-    rooms.upstreams.replace_answer(k, answer);
-    Ok(ended)
+    rooms.offers.end(stream, &mut answer)
 }
 
 /// Closes an open connection. An `Err` says that memory was refused.

@@ -1,17 +1,20 @@
 //! The connection that is due is opened, or what is due is sent on one that is open.
 
-ghost use Rattle.std.specs.Prelude.{◌≡◌, ℕ, codes, OnOk};
+ghost use Rattle.std.specs.Prelude.{◌≡◌, ◌≤◌, ℕ, true, false, codes, OnOk, IfSome, is_some};
 ghost use Rattle.model.specs.Causes.{is_front_of};
 ghost use Rattle.model.specs.Setup.{Setup};
 ghost use Rattle.serving.specs.State.Due.{ToSend};
 ghost use Rattle.answers.specs.Waiting.{passing_in};
-ghost use Rattle.upstreams.specs.Requests.{due_for};
+ghost use Rattle.marks_kept.specs.Sides.{is_past};
+ghost use Rattle.serving.specs.Lines.{find};
+ghost use Rattle.upstreams.specs.Connections.{number_of};
+ghost use Rattle.upstreams.specs.Requests.{due_for, due_on};
 ghost use Rattle.relay.specs.View.{square};
 ghost use Rattle.relay.specs.Rest.{Reached};
 ghost use Rattle.relay.specs.Bringing.{PerformsOwn};
 ghost use Rattle.steps.specs.Closings.{NoneDoneBut};
 ghost use Rattle.steps.specs.Resting.{IsPassedBy};
-ghost use Rattle.steps.specs.exchanges.Opening.{with_side, IsAbove};
+ghost use Rattle.steps.specs.exchanges.Opening.{with_side, with_side_over, IsAbove, IsLast};
 
 use crate::exchanges::listening::stream_of;
 use answers::Passing;
@@ -43,9 +46,46 @@ fn begin_counting(
     match passing {
         Passing::Whole(_) => Ok(()),
         Passing::Streaming => {
-            rooms.marks.open(stream, k)?;
+            rooms.marks.open(stream, k, 0, 0)?;
             rooms.marks.put(stream, count);
             Ok(())
+        }
+    }
+}
+
+/// How many octets were put out for a connection, to all streams that it was given to, and how many of them its side took.
+#[derive(Clone, Copy)]
+struct Counts {
+    /// How many were put out.
+    put_out: u64,
+    /// How many were taken.
+    taken: u64,
+}
+
+/// An open connection goes over from one stream to another: from now on what is put out for it is counted for that, where bodies are passed on as
+/// they come, behind so many octets. Octets of the first one's DATA that wait for it wait on. An `Err` says that memory was refused, or that more than
+/// 2^64 - 1 would wait so, which never do.
+fn go_on_counting(
+    rooms: &mut Rooms,
+    from: u32,
+    stream: u32,
+    k: u32,
+    counts: Counts,
+    passing: Passing,
+) -> Result<(), AllocError>
+    requires above { IsAbove (passing_in passing) stream rooms.old.marks }
+    requires within { counts.taken ≤ counts.put_out }
+    ensures { OnOk result (rooms.new ≡ record rooms.old { marks = with_side_over (passing_in passing) from stream k counts.put_out counts.taken rooms.old.marks }) }
+{
+    match passing {
+        Passing::Whole(_) => Ok(()),
+        Passing::Streaming => {
+            let waiting = rooms.marks.total(from);
+            if rooms.marks.behind().checked_add(waiting).is_none() {
+                return Err(AllocError);
+            }
+            rooms.marks.pass(from);
+            rooms.marks.open(stream, k, counts.put_out, counts.taken)
         }
     }
 }
@@ -62,6 +102,7 @@ pub fn open(
     ensures performs { OnOk result ((setup : Setup) (fresh back : ℕ) → IsPassedBy setup passing → PerformsOwn setup rooms.old (record square { due = due_for request; fresh = fresh; shared = back }) out.old rooms.new (record square { fresh = fresh; shared = back }) out.new) }
     ensures stays { OnOk result ((rooms.new.inbound ≡ rooms.old.inbound) × (rooms.new.offers ≡ rooms.old.offers) × (rooms.new.encoding ≡ rooms.old.encoding) × (rooms.new.untaken ≡ rooms.old.untaken)) }
     ensures none_but { OnOk result ((id : ℕ) → NoneDoneBut id rooms.old → NoneDoneBut id rooms.new) }
+    ensures newest { OnOk result (is_past rooms.old.inbound.last rooms.old.marks ≡ false → is_past rooms.old.inbound.last rooms.new.marks ≡ false) }
 {
     let Outgoing {
         stream,
@@ -71,11 +112,63 @@ pub fn open(
     } = request;
     let to_head = asks_for_head(text.as_slice());
     let count = text.as_slice().len() as u64;
-    let k = rooms.upstreams.open(stream, to_head, passing, rest)?;
+    let k = rooms.upstreams.open(stream, route, to_head, passing, rest)?;
     out.open_up(k, route)?;
     rooms.upstreams.put(k, count);
     begin_counting(rooms, stream, k, count, passing)?;
     out.send_up(k, text)
+}
+
+/// The stream that an open connection was given to last, and what is counted of it.
+fn last_of(rooms: &Rooms, k: u32) -> (u32, Counts)
+    requires { is_some (find number_of k rooms.now.upstreams.live) ≡ true }
+    ensures { IfSome (find number_of k rooms.now.upstreams.live) (λ connection. IsLast connection result.0 result.1) }
+{
+    let Some(connection) = rooms.upstreams.find(k) else {
+        unreachable!();
+    };
+    let counts = Counts {
+        put_out: connection.put_out(),
+        taken: connection.taken(),
+    };
+    (connection.stream(), counts)
+}
+
+/// Gives the idle connection with this number to the stream whose request is due on it, and sends there what is written of that, where no frame is
+/// owed (RFC 9112, section 9.3). Its response is passed on as the request is. An `Err` says that memory was refused; then the rooms and the outputs are of
+/// no use any more.
+pub fn reuse(
+    rooms: &mut Rooms,
+    number: u32,
+    request: Outgoing,
+    passing: Passing,
+    out: &mut Outputs,
+) -> Result<(), AllocError>
+    requires reached { (setup : Setup) × IsPassedBy setup passing × (fresh back : ℕ) × Reached setup rooms.old (record square { due = due_on number request; fresh = fresh; shared = back }) }
+    ensures performs { OnOk result ((setup : Setup) (fresh back : ℕ) → IsPassedBy setup passing → PerformsOwn setup rooms.old (record square { due = due_on number request; fresh = fresh; shared = back }) out.old rooms.new (record square { fresh = fresh; shared = back }) out.new) }
+    ensures stays { OnOk result ((rooms.new.inbound ≡ rooms.old.inbound) × (rooms.new.offers ≡ rooms.old.offers) × (rooms.new.encoding ≡ rooms.old.encoding) × (rooms.new.untaken ≡ rooms.old.untaken)) }
+    ensures none_but { OnOk result ((id : ℕ) → NoneDoneBut id rooms.old → NoneDoneBut id rooms.new) }
+    ensures newest { OnOk result (is_past rooms.old.inbound.last rooms.old.marks ≡ false → is_past rooms.old.inbound.last rooms.new.marks ≡ false) }
+{
+    let Outgoing {
+        stream,
+        text,
+        rest,
+        ..
+    } = request;
+    let (from, mut counts) = last_of(rooms, number);
+    let count = text.as_slice().len() as u64;
+    let Some(put_out) = counts.put_out.checked_add(count) else {
+        return Err(AllocError);
+    };
+    counts.put_out = put_out;
+    let to_head = asks_for_head(text.as_slice());
+    rooms
+        .upstreams
+        .give(number, stream, to_head, passing, rest)?;
+    rooms.upstreams.put(number, count);
+    go_on_counting(rooms, from, stream, number, counts, passing)?;
+    out.send_up(number, text)
 }
 
 /// Sends octets that are due on the open connection with this number, where no frame is owed. An `Err` says that memory was refused; then the rooms and the outputs are of
@@ -90,6 +183,7 @@ pub fn send(
     ensures performs { OnOk result ((setup : Setup) (fresh back : ℕ) → PerformsOwn setup rooms.old (record square { due = ToSend number text.items; fresh = fresh; shared = back }) out.old rooms.new (record square { fresh = fresh; shared = back }) out.new) }
     ensures stays { OnOk result ((rooms.new.inbound ≡ rooms.old.inbound) × (rooms.new.offers ≡ rooms.old.offers) × (rooms.new.encoding ≡ rooms.old.encoding) × (rooms.new.untaken ≡ rooms.old.untaken)) }
     ensures none_but { OnOk result ((id : ℕ) → NoneDoneBut id rooms.old → NoneDoneBut id rooms.new) }
+    ensures newest { OnOk result (is_past rooms.old.inbound.last rooms.old.marks ≡ false → is_past rooms.old.inbound.last rooms.new.marks ≡ false) }
 {
     let stream = stream_of(rooms, number);
     let count = text.len() as u64;

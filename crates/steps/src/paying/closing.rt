@@ -1,9 +1,9 @@
 //! Connections of a stream that isn't served any more are closed.
 
-ghost use Rattle.std.specs.Prelude.{◌≡◌, ℕ, option_map, OnOk};
+ghost use Rattle.std.specs.Prelude.{◌≡◌, ℕ, suc, option_map, OnOk};
 ghost use Rattle.model.specs.Setup.{Setup};
-ghost use Rattle.serving.specs.State.{find};
-ghost use Rattle.upstreams.specs.Connections.{number_of, stream_of};
+ghost use Rattle.serving.specs.Lines.{find};
+ghost use Rattle.upstreams.specs.Connections.{number_of, works_for};
 ghost use Rattle.relay.specs.Rest.{NoneDone, back_of};
 ghost use Rattle.relay.specs.Bringing.{PerformsOwn};
 ghost use Rattle.steps.specs.Closings.{NoneDoneBut};
@@ -12,9 +12,9 @@ use outputs::Outputs;
 use relay::Rooms;
 use std::alloc::AllocError;
 
-/// The number of the newest open connection of a stream, if there is one.
+/// The number of the newest open connection that works for a stream, if there is one: an idle one works for none.
 fn newest_of(rooms: &Rooms, id: u32) -> Option<u32>
-    ensures { result ≡ option_map number_of (find stream_of id rooms.now.upstreams.live) }
+    ensures { result ≡ option_map number_of (find works_for (suc id) rooms.now.upstreams.live) }
 {
     match rooms.upstreams.of_stream(id) {
         Some(connection) => Some(connection.number()),
@@ -22,7 +22,8 @@ fn newest_of(rooms: &Rooms, id: u32) -> Option<u32>
     }
 }
 
-/// Closes each connection of the stream that a step was about, if that isn't served any more; no other is done with. An `Err` says that memory was
+/// Closes each connection that works for the stream that a step was about, if that isn't served any more; no other is done with. One that is idle, or
+/// serves another stream by now, stays open. An `Err` says that memory was
 /// refused; then neither the rooms nor the outputs are of use any more.
 pub fn close_unserved(rooms: &mut Rooms, id: u32, out: &mut Outputs) -> Result<(), AllocError>
     requires { NoneDoneBut id rooms.old }

@@ -1,6 +1,6 @@
 //! Octets of DATA that came are given back (RFC 9113, section 6.9), at once or once their stream's upstream took what was put out for it.
 
-ghost use Rattle.std.specs.Prelude.{◌≡◌, ◌<◌, ◌≤◌, ℕ, true, false, nat_lt, IfErr, IfOk, OnOk, pos, ◌+ℤ◌, ◌≤ℤ◌};
+ghost use Rattle.std.specs.Prelude.{◌≡◌, ◌+◌, ◌<◌, ◌≤◌, ℕ, true, false, nat_lt, IfErr, IfOk, OnOk, pos, ◌+ℤ◌, ◌≤ℤ◌};
 ghost use Rattle.model.specs.Admission.{most_untaken};
 ghost use Rattle.model.specs.Frames.{spell};
 ghost use Rattle.model.specs.Setup.{Setup};
@@ -10,16 +10,17 @@ ghost use Rattle.model.specs.Windows.{greatest_window};
 ghost use Rattle.conduct.specs.Rows.{find};
 ghost use Rattle.streams_kept.specs.Asked.{has, is_active};
 ghost use Rattle.streams_kept.specs.Sending.{AreReturnable};
-ghost use Rattle.marks_kept.specs.Sides.{change, waiting};
+ghost use Rattle.marks_kept.specs.Sides.{change, is_past, waiting};
 ghost use Rattle.outputs.specs.Sent.{window_update};
 ghost use Rattle.relay.specs.View.{square};
 ghost use Rattle.relay.specs.Rest.{GoesOn, Reached, back_of, IsBack};
 ghost use Rattle.relay.specs.Bringing.{PerformsOwn};
 ghost use Rattle.steps.specs.Stopping.{IfOver, IsCalmed, EndsFrom};
-ghost use Rattle.steps.specs.paying.Returning.{back_on, goes_back_on, given_on_connection, given_on_stream, IsReturned};
+ghost use Rattle.steps.specs.paying.Returning.{back_on, due_on_stream, goes_back_on, given_on_connection, given_on_stream, IsReturned};
 
 use crate::paying::control::{Control, pay};
 use crate::stop::Stop;
+use marks_kept::Taken;
 use outputs::Outputs;
 use relay::Rooms;
 use std::alloc::AllocError;
@@ -97,7 +98,8 @@ pub fn return_dropped(rooms: &mut Rooms, dropped: u64, out: &mut Outputs) -> Res
 /// So many octets of the last frame, of which there are some, wait until its stream's upstream has taken all that was put out for it. An `Err` says
 /// that memory was refused, or that these would be more than 2^64 - 1, which never wait.
 fn wait(rooms: &mut Rooms, stream: u32, octets: u32) -> Result<(), AllocError>
-    requires { 0 < octets }
+    requires some { 0 < octets }
+    requires newest { is_past stream rooms.old.marks ≡ false }
     ensures { OnOk result (rooms.new ≡ record rooms.old { marks = change stream (waiting octets) rooms.old.marks }) }
 {
     let count = u64::from(octets);
@@ -122,6 +124,7 @@ pub fn settle(
     requires goes_on { GoesOn rooms.old }
     requires few { octets ≤ 16384 }
     requires last { stream ≡ rooms.old.inbound.last }
+    requires newest { 0 < octets → is_past stream rooms.old.marks ≡ false }
     requires numbered { (id : ℕ) → has rooms.old.inbound.rows id ≡ true → id < 2147483648 }
     ensures performs { OnOk result ((setup : Setup) → PerformsOwn setup rooms.old (record square { fresh = octets; shared = dropped }) out.old rooms.new square out.new) }
     ensures stays { OnOk result (IsReturned rooms.old rooms.new) }
@@ -145,28 +148,48 @@ pub fn settle(
     Ok(())
 }
 
-/// So many octets of a stream's DATA that don't wait any more are given back, on the connection and on the stream while that goes on (RFC 9113,
-/// section 6.9). An `Err` says that memory was refused; then neither the rooms nor the outputs are of use any more.
+/// Octets of DATA that don't wait any more, of which there are some, since the side of an upstream's connection took what was put out for it, are given back:
+/// all on the connection, and those of the stream that the connection was given to last on that, while it goes on (RFC 9113, section 6.9). Streams that had it
+/// before were ended by the client: on these nothing goes back. An `Err` says that memory was refused; then neither the rooms nor the outputs are of use any
+/// more.
 pub fn return_taken(
     rooms: &mut Rooms,
     stream: u32,
-    back: u64,
+    taken: Taken,
     out: &mut Outputs,
 ) -> Result<(), Stop>
-    requires reached { (setup : Setup) × Reached setup rooms.old (back_on stream back) }
+    requires some { 0 < taken.own + taken.older }
+    requires reached { (setup : Setup) × Reached setup rooms.old (back_on stream taken) }
     requires goes_on { GoesOn rooms.old }
     requires numbered { (id : ℕ) → has rooms.old.inbound.rows id ≡ true → id < 2147483648 }
-    ensures performs { OnOk result ((setup : Setup) → PerformsOwn setup rooms.old (back_on stream back) out.old rooms.new square out.new) }
+    ensures performs { OnOk result ((setup : Setup) → PerformsOwn setup rooms.old (back_on stream taken) out.old rooms.new square out.new) }
     ensures stays { OnOk result (IsReturned rooms.old rooms.new) }
-    ensures over { IfErr result (λ stop. IfOver stop ((setup : Setup) → EndsFrom setup rooms.old (back_on stream back) out.old out.new)) }
+    ensures over { IfErr result (λ stop. IfOver stop ((setup : Setup) → EndsFrom setup rooms.old (back_on stream taken) out.old out.new)) }
 {
-    if back == 0 {
+    let Some(sum) = taken.own.checked_add(taken.older) else {
+        return Err(Stop::Memory);
+    };
+    let octets = returnable(sum)?;
+    give_back(rooms, octets, out)?;
+    return_own(rooms, stream, taken.own, out)
+}
+
+/// Octets of a stream's DATA that went back on the connection go back on the stream too, if there are some, while it goes on. An `Err` says that memory was
+/// refused, or that the connection was ended in place of the frame.
+fn return_own(rooms: &mut Rooms, stream: u32, own: u64, out: &mut Outputs) -> Result<(), Stop>
+    requires reached { (setup : Setup) × Reached setup rooms.old (due_on_stream stream own) }
+    requires goes_on { GoesOn rooms.old }
+    requires numbered { (id : ℕ) → has rooms.old.inbound.rows id ≡ true → id < 2147483648 }
+    ensures performs { OnOk result ((setup : Setup) → PerformsOwn setup rooms.old (due_on_stream stream own) out.old rooms.new square out.new) }
+    ensures stays { OnOk result (IsReturned rooms.old rooms.new) }
+    ensures over { IfErr result (λ stop. IfOver stop ((setup : Setup) → EndsFrom setup rooms.old (due_on_stream stream own) out.old out.new)) }
+{
+    if own == 0 {
         return Ok(());
     }
-    let octets = returnable(back)?;
-    give_back(rooms, octets, out)?;
-    if goes_back_on(rooms, stream) {
-        give_back_on(rooms, stream, octets, out)?;
+    if !goes_back_on(rooms, stream) {
+        return Ok(());
     }
-    Ok(())
+    let octets = returnable(own)?;
+    give_back_on(rooms, stream, octets, out)
 }

@@ -1,4 +1,4 @@
-use Rattle.std.proofs.Common.{◌≡◌, ◌+◌, ap}
+use Rattle.std.proofs.Common.{◌+◌, ap}
 use Rattle.model.specs.Tables.{total_size}
 use Rattle.holding.proofs.HeldInside.{begun_is}
 use Rattle.holding.proofs.inside.what_the_rooms_hold_is_seen.Goals as goal

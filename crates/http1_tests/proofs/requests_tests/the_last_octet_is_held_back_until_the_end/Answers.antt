@@ -13,6 +13,6 @@ pass-requires-2 g c =
     let declared : c.in_ok-head.head.length ≡ Some 5 = search rules in
     let sending : Sending false c.in_ok-head.head false c.in-Waits.request.text [] [] c.in-Waits.request.stage = search rules in
     let on : GoesOn c.in-Waits.request.stage (104 ∷ 101 ∷ 108 ∷ 108 ∷ 111 ∷ []) [] false c.in_ok-first.first.items c.pass.new.self = subst (λ (s : Stage). GoesOn s (104 ∷ 101 ∷ 108 ∷ 108 ∷ 111 ∷ []) [] false c.in_ok-first.first.items c.pass.new.self) c.go-text.ensures.rest c.in_ok-first.ensures in
-    goes_further c.in_ok-head.head c.in-Waits.request.text c.in-Waits.request.stage c.pass.new.self first c.in_ok-first.first.items more [] true sending on
+    goes_further false c.in_ok-head.head c.in-Waits.request.text c.in-Waits.request.stage c.pass.new.self first c.in_ok-first.first.items more [] true sending on
     (subst (λ (o : Option ℕ). HasRoom o (piece_of first) (length more)) (sym declared) (omega arith))
     (λ e. subst (λ (o : Option ℕ). HasLength o (concat (piece_of first) ++ more)) (sym declared) refl)

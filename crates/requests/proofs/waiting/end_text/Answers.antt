@@ -8,7 +8,7 @@ pub finish-requires : goal.finish-requires
 finish-requires c =
     let pushed : Continues c.args.sender (c.in_ok-push.ensures.ok).0 c.args.body.now [] c.push.new.self = (c.in_ok-push.ensures.ok).2 in
     let on : c.push.new.self ≡ Whole → ⊥ = search rules in
-    laws.may_finish c.requires.parts (c.args.head.items ++ (c.in_ok-push.ensures.ok).0) c.push.new.self c.args.body.now (pushed false c.requires.parts false c.args.head.items [] c.requires.sending) on c.requires.has_length
+    laws.may_finish c.requires.keep c.requires.parts (c.args.head.items ++ (c.in_ok-push.ensures.ok).0) c.push.new.self c.args.body.now (pushed c.requires.keep c.requires.parts false c.args.head.items [] c.requires.sending) on c.requires.has_length
 
 pub returns : goal.returns
 returns c =

@@ -1,5 +1,6 @@
 use Rattle.std.proofs.Common.{◌≡◌, ◌≤◌, ◌<◌, ◌+◌, ◌-◌, ◌++◌, length, length-append, ◌∙◌, subst, rules, arith, List, ℕ}
-use Rattle.model.specs.ResponseHeads.{named_by_connection, Interim, Final}
+use Rattle.model.specs.ResponseHeads.{named_by_connection, Interim}
+use Rattle.response_texts.specs.Heads.{IsFinalRead}
 use Rattle.response_texts.specs.Framings.{framing_view}
 use Rattle.response_texts.proofs.FrontLemmas.{ends_in}
 use Rattle.response_texts.proofs.FaultReads.{reach, head_in_whole, long_head}
@@ -31,7 +32,7 @@ overflow_sub-result-in-Ok-Final c =
     let counted : c.len-before.result ≡ length c.args.held.items = search rules in
     let read = rw c.in-Ok-Final.field-0-is at c.in-Ok-Final.ensures in
     let ends = ends_in c.args.held.items c.args.octets.now c.deref.result.now c.len-before.result c.min-taken.result c.in-Ok-Final.used _ c.requires.none counted (omega (arith, c.min-taken.ensures))
-    (c.deref.ensures.value ∙ c.in_ok-extend_from_slice.ensures.items) read.0 read.1.taken.reads in
+    (c.deref.ensures.value ∙ c.in_ok-extend_from_slice.ensures.items) read.0 read.1.0.taken.reads in
     let more : c.len-before.result < c.in-Ok-Final.used = ends.more in
     omega arith
 
@@ -49,9 +50,9 @@ returns-in-Ok-Final c =
     let counted : c.len-before.result ≡ length c.args.held.items = search rules in
     let read = rw c.in-Ok-Final.field-0-is at c.in-Ok-Final.ensures in
     let ends = ends_in c.args.held.items c.args.octets.now c.deref.result.now c.len-before.result c.min-taken.result c.in-Ok-Final.used _ c.requires.none counted (omega (arith, c.min-taken.ensures))
-    (c.deref.ensures.value ∙ c.in_ok-extend_from_slice.ensures.items) read.0 read.1.taken.reads in
+    (c.deref.ensures.value ∙ c.in_ok-extend_from_slice.ensures.items) read.0 read.1.0.taken.reads in
     let more : c.len-before.result < c.in-Ok-Final.used = ends.more in
-    (omega arith, ends.fits, subst (λ (o : List ℕ). Final c.args.to_head o c.in-Ok-Final.head (framing_view (named_by_connection c.in-Ok-Final.connections.items) c.in-Ok-Final.framing)) ends.is read.1, read.2)
+    (omega arith, ends.fits, subst (λ (o : List ℕ). IsFinalRead c.args.to_head o c.in-Ok-Final.head (framing_view (named_by_connection c.in-Ok-Final.connections.items) c.in-Ok-Final.framing) c.in-Ok-Final.stays) ends.is read.1, read.2)
 
 pub returns-in-Err : goal.returns-in-Err
 returns-in-Err c =

@@ -1,5 +1,6 @@
 use Rattle.std.proofs.Common.{◌≡◌, ◌≤◌, ◌<◌, length, [], subst, refl, arith, List, ℕ}
-use Rattle.model.specs.ResponseHeads.{named_by_connection, Interim, Final}
+use Rattle.model.specs.ResponseHeads.{named_by_connection, Interim}
+use Rattle.response_texts.specs.Heads.{IsFinalRead}
 use Rattle.response_texts.specs.Framings.{framing_view}
 use Rattle.response_texts.proofs.FrontLemmas.{ends_there}
 use Rattle.response_texts.proofs.FaultReads.{reach, head_in_whole, long_head}
@@ -23,8 +24,8 @@ returns-in-Ok-Interim c =
 pub returns-in-Ok-Final : goal.returns-in-Ok-Final
 returns-in-Ok-Final c =
     let read = rw c.in-Ok-Final.field-0-is at c.in-Ok-Final.ensures in
-    let ends = ends_there c.args.octets.now _ c.min-taken.result c.in-Ok-Final.used _ (omega (arith, c.min-taken.ensures)) refl read.0 read.1.taken.reads in
-    (ends.more, ends.fits, subst (λ (o : List ℕ). Final c.args.to_head o c.in-Ok-Final.head (framing_view (named_by_connection c.in-Ok-Final.connections.items) c.in-Ok-Final.framing)) ends.is read.1, read.2)
+    let ends = ends_there c.args.octets.now _ c.min-taken.result c.in-Ok-Final.used _ (omega (arith, c.min-taken.ensures)) refl read.0 read.1.0.taken.reads in
+    (ends.more, ends.fits, subst (λ (o : List ℕ). IsFinalRead c.args.to_head o c.in-Ok-Final.head (framing_view (named_by_connection c.in-Ok-Final.connections.items) c.in-Ok-Final.framing) c.in-Ok-Final.stays) ends.is read.1, read.2)
 
 pub returns-in-Err : goal.returns-in-Err
 returns-in-Err c =

@@ -8,7 +8,7 @@ use Rattle.response_texts.specs.Heads.{framing_fault}
 use Rattle.response_texts.specs.Framings.{framing_view}
 use Rattle.response_texts.specs.HeadSizes.{field_octets}
 use Rattle.response_texts.proofs.HeadSizeLemmas.{lines_taken}
-use Rattle.response_texts.proofs.HeadLemmas.{taken, says, framed, meant_at}
+use Rattle.response_texts.proofs.HeadLemmas.{taken, says, framed, opens, meant_at}
 use Rattle.response_texts.proofs.PassedBack.{passed_back}
 use Rattle.response_texts.proofs.FaultReads.{crowded, low, upgraded, unframed}
 use Rattle.response_texts.proofs.head.take_head.Goals as goal
@@ -61,15 +61,18 @@ returns c =
     let code : c.args.found.code ≡ status_code of.0 = of.1.code in
     let high : 200 ≤ c.args.found.code = c.if-found-lt200.false in (
       c.requires.within.section.len_fits,
-      record {
-        spelled = of.0;
-        taken = taken c.args.text.now c.args.spans.now c.args.found of c.requires.within (λ k. (c.type_inv.text k).fits) c.requires.short c.if-found-gt-MOST_FIELDS.false c.if-found-lt100.false c.if-found-eq101.false;
-        is_final = omega arith;
-        framed = framed c.args.to_head c.args.text.now c.args.spans.now c.args.found c.in_ok-all.all.items (framing_view (named_by_connection c.in_ok-connections.connections.items) c.in-Ok.framing) of c.in_ok-all.ensures
-            (ap (framing_for c.args.to_head c.args.found.version c.args.found.code) (sym c.deref-2.ensures.value) ∙ c.in-Ok.ensures ∙ ap (λ n. Some (framing_view n c.in-Ok.framing)) (ap named_by_connection c.deref-2.ensures.value ∙ sym names));
-        says = says c.args.text.now c.args.spans.now c.args.found c.in_ok-all.all.items c.in_ok-passed-2.passed.items c.new-head-2.result of c.in_ok-all.ensures
-            c.in_ok-passed-2.ensures c.new-head-2.ensures.status c.new-head-2.ensures.fields;
-      },
+      (
+        record {
+          spelled = of.0;
+          taken = taken c.args.text.now c.args.spans.now c.args.found of c.requires.within (λ k. (c.type_inv.text k).fits) c.requires.short c.if-found-gt-MOST_FIELDS.false c.if-found-lt100.false c.if-found-eq101.false;
+          is_final = omega arith;
+          framed = framed c.args.to_head c.args.text.now c.args.spans.now c.args.found c.in_ok-all.all.items (framing_view (named_by_connection c.in_ok-connections.connections.items) c.in-Ok.framing) of c.in_ok-all.ensures
+              (ap (framing_for c.args.to_head c.args.found.version c.args.found.code) (sym c.deref-2.ensures.value) ∙ c.in-Ok.ensures ∙ ap (λ n. Some (framing_view n c.in-Ok.framing)) (ap named_by_connection c.deref-2.ensures.value ∙ sym names));
+          says = says c.args.text.now c.args.spans.now c.args.found c.in_ok-all.all.items c.in_ok-passed-2.passed.items c.new-head-2.result of c.in_ok-all.ensures
+              c.in_ok-passed-2.ensures c.new-head-2.ensures.status c.new-head-2.ensures.fields;
+        },
+        opens c.args.text.now c.args.spans.now c.args.found c.deref-4.result.now c.in_ok-all.all.items c.leave_open-stays.result of c.in_ok-all.ensures (ap named_by_connection c.deref-4.ensures.value ∙ names) c.leave_open-stays.ensures,
+      ),
       omega (arith, few, size, lines, short),
     )
 

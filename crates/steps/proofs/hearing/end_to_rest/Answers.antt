@@ -2,7 +2,7 @@ use Rattle.std.proofs.Common.{refl, sym, ◌∙◌, ap, subst}
 use Rattle.model.specs.Logs.Event.{UpEnd}
 use Rattle.model.specs.Tapes.Entry.{Happened}
 use Rattle.offering.specs.State as offering
-use Rattle.serving.specs.State.{find}
+use Rattle.serving.specs.Lines.{find}
 use Rattle.upstreams.specs.Kept.{State}
 use Rattle.upstreams.specs.Connections.{number_of, lives}
 use Rattle.relay.specs.View.{square}

@@ -4,7 +4,7 @@ use Rattle.std.proofs.lemmas.Bool.{and_parts}
 use Rattle.model.specs.Logs.Event.{Up}
 use Rattle.model.specs.Tapes.Entry.{Happened}
 use Rattle.offering.specs.State as offering
-use Rattle.serving.specs.State.{find}
+use Rattle.serving.specs.Lines.{find}
 use Rattle.upstreams.specs.Kept.{State}
 use Rattle.upstreams.specs.Connections.{number_of, lives}
 use Rattle.relay.specs.View.{square}
@@ -21,13 +21,13 @@ use Rattle.steps.proofs.hearing.hear_to_rest.Goals as goal
 pub return_dropped-requires : goal.return_dropped-requires
 return_dropped-requires c =
     let before = c.requires.reached in
-    let here = c.in_ok-back.ensures.brings before.0 before.1.0 before.1.1 before.1.2 in
+    let here = c.in_ok-back.ensures.brings before.0 before.1 before.2.0 before.2.1 before.2.2 in
     record { reached = (before.0, (_, here.segment.state, here.segment.leads)) }
 
 pub rest_behind-requires-clause-reached : goal.rest_behind-requires-clause-reached
 rest_behind-requires-clause-reached c =
     let before = c.requires.reached in
-    let here = c.in_ok-back.ensures.brings before.0 before.1.0 before.1.1 before.1.2 in
+    let here = c.in_ok-back.ensures.brings before.0 before.1 before.2.0 before.2.1 before.2.2 in
     let returned = c.in_ok-return_dropped.ensures.performs in
     let there = returned.2 before.0 _ here.segment.state here.segment.leads in
     (before.0, returned.0, returned.1, (_, there.segment.state, there.segment.leads))
@@ -47,10 +47,10 @@ rest_behind-requires-clause-numbered c id there = c.in_ok-back.ensures.numbered 
 pub returns-clause-comes : goal.returns-clause-comes
 returns-clause-comes c =
     if_ok c.rest_behind.result
-    (λ went follows setup.
+    (λ went follows setup keeps.
     let returned = c.in_ok-return_dropped.ensures.performs in
     comes_then setup c.args.rooms.now c.return_dropped.new.rooms square (back_of returned.0) square c.args.out.now c.return_dropped.new.out c.rest_behind.new.out (Happened (Up c.args.k c.args.octets.now)) (OfEvent (Up c.args.k c.args.octets.now)) (now_of went c.rest_behind.new.rooms) refl
-    (brings_then setup c.args.rooms.now c.hear.new.rooms c.return_dropped.new.rooms square (back_of c.in_ok-back.back) (back_of returned.0) c.args.out.now c.hear.new.out c.return_dropped.new.out (Happened (Up c.args.k c.args.octets.now)) (c.in_ok-back.ensures.brings setup) (returned.2 setup))
+    (brings_then setup c.args.rooms.now c.hear.new.rooms c.return_dropped.new.rooms square (back_of c.in_ok-back.back) (back_of returned.0) c.args.out.now c.hear.new.out c.return_dropped.new.out (Happened (Up c.args.k c.args.octets.now)) (c.in_ok-back.ensures.brings setup keeps) (returned.2 setup))
     (follows returned.0 returned.1 setup)) c.rest_behind.ensures.follows
 
 -- ---- the connection ends in place of a frame
@@ -61,15 +61,15 @@ returns-in_err-back-clause-over c = stopped c.from_residual.result c.in_err-back
 pub returns-in_err-return_dropped-clause-over : goal.returns-in_err-return_dropped-clause-over
 returns-in_err-return_dropped-clause-over c =
     stopped c.from_residual-in_err-return_dropped.result c.in_err-return_dropped.field-0.0 c.from_residual-in_err-return_dropped.ensures.1
-    (λ ends setup.
+    (λ ends setup keeps.
     calm_comes setup c.args.rooms.now c.hear.new.rooms square (back_of c.in_ok-back.back) c.args.out.now c.hear.new.out c.return_dropped.new.out (Happened (Up c.args.k c.args.octets.now)) (OfEvent (Up c.args.k c.args.octets.now)) refl
-    (c.in_ok-back.ensures.brings setup) (ends setup)) c.in_err-return_dropped.ensures.over
+    (c.in_ok-back.ensures.brings setup keeps) (ends setup)) c.in_err-return_dropped.ensures.over
 
 pub returns-clause-over : goal.returns-clause-over
 returns-clause-over c =
     on_over c.rest_behind.result
-    (λ ends setup.
+    (λ ends setup keeps.
     let returned = c.in_ok-return_dropped.ensures.performs in
     calm_comes setup c.args.rooms.now c.return_dropped.new.rooms square (back_of returned.0) c.args.out.now c.return_dropped.new.out c.rest_behind.new.out (Happened (Up c.args.k c.args.octets.now)) (OfEvent (Up c.args.k c.args.octets.now)) refl
-    (brings_then setup c.args.rooms.now c.hear.new.rooms c.return_dropped.new.rooms square (back_of c.in_ok-back.back) (back_of returned.0) c.args.out.now c.hear.new.out c.return_dropped.new.out (Happened (Up c.args.k c.args.octets.now)) (c.in_ok-back.ensures.brings setup) (returned.2 setup))
+    (brings_then setup c.args.rooms.now c.hear.new.rooms c.return_dropped.new.rooms square (back_of c.in_ok-back.back) (back_of returned.0) c.args.out.now c.hear.new.out c.return_dropped.new.out (Happened (Up c.args.k c.args.octets.now)) (c.in_ok-back.ensures.brings setup keeps) (returned.2 setup))
     (ends returned.0 returned.1 setup)) c.rest_behind.ensures.over

@@ -24,6 +24,17 @@ returns-in-ToOpen-clause-performs c =
     (λ performs setup fresh back passed.
     subst (λ (d : Due). PerformsOwn setup c.args.rooms.now (record square { due = due_by d; fresh = fresh; shared = back }) c.args.out.now c.open.new.rooms (record square { fresh = fresh; shared = back }) c.open.new.out) (sym c.in-ToOpen.is) (performs setup fresh back passed)) c.open.ensures.performs
 
+pub reuse-requires : goal.reuse-requires
+reuse-requires c =
+    let r = c.requires.reached in
+    record { reached = (r.0, r.1, r.2, r.3, subst (λ (d : Due). Reached r.0 c.args.rooms.now (record square { due = due_by d; fresh = r.2; shared = r.3 })) c.in-ToUse.is r.4) }
+
+pub returns-in-ToUse-clause-performs : goal.returns-in-ToUse-clause-performs
+returns-in-ToUse-clause-performs c =
+    on_ok c.reuse.result
+    (λ performs setup fresh back passed.
+    subst (λ (d : Due). PerformsOwn setup c.args.rooms.now (record square { due = due_by d; fresh = fresh; shared = back }) c.args.out.now c.reuse.new.rooms (record square { fresh = fresh; shared = back }) c.reuse.new.out) (sym c.in-ToUse.is) (performs setup fresh back passed)) c.reuse.ensures.performs
+
 pub returns-in-ToSend-clause-performs : goal.returns-in-ToSend-clause-performs
 returns-in-ToSend-clause-performs c =
     on_ok c.send.result

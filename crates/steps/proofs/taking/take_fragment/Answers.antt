@@ -1,7 +1,6 @@
 use Rattle.std.proofs.Common.{◌≡◌, Bool, true, sym, ◌∙◌, ap, refl, subst, inl}
 use Rattle.model.specs.Setup.{Setup}
 use Rattle.model.specs.Tapes.Entry.{Came}
-use Rattle.answers.specs.declared.answer.Passing.{Passing}
 use Rattle.answers.specs.Waiting.{passing_in}
 use Rattle.serving.specs.State.{is_streaming}
 use Rattle.frames.specs.Views.{frame_of}
@@ -18,22 +17,24 @@ use Rattle.relay.specs.View.{square}
 use Rattle.relay.specs.Rest.{NoneCut, back_of}
 use Rattle.relay.proofs.Bringing.{brings_then}
 use Rattle.steps.specs.Inputs.Input.{OfFrame}
-use Rattle.steps.specs.Resting.{now_of, IsPassedBy}
+use Rattle.steps.specs.Resting.{now_of, IsServed}
+use Rattle.steps.specs.block_frames.Taken.{IsOutlet}
+use Rattle.steps.specs.declared.taking.Service.{Service}
 use Rattle.steps.proofs.Closings.{about_but, but_stays}
 use Rattle.steps.proofs.Following.{comes_then}
 use Rattle.steps.proofs.Frames.{numbered_with, block_goes, block_ends, farewell_brings, block_brings, farewell_owed, fatal_comes}
 use Rattle.steps.proofs.Results.{if_ok, on_over, stopped}
 use Rattle.steps.proofs.taking.take_fragment.Goals as goal
 
--- bodies are passed on as they come just where the service says so
-streams_so : (setup : Setup) (way : Passing) (streams : Bool) → IsPassedBy setup way → streams ≡ is_streaming (passing_in way) → streams ≡ is_streaming setup.passing
-streams_so setup way streams passed is = is ∙ ap is_streaming passed.passing
+-- requests go out as the service says
+outlet_so : (setup : Setup) (service : Service) (streams : Bool) → IsServed setup service → streams ≡ is_streaming (passing_in service.passing) → IsOutlet setup (record { at_once = streams; keep = service.keep })
+outlet_so setup service streams served is = record { at_once = is ∙ ap is_streaming served.passing.passing; keep = served.keep }
 
 pub serve-requires : goal.serve-requires
 serve-requires c =
     let before = c.requires.reached in
     let passed =
-    block_goes before.0 c.args.rooms.now c.take_block.new.rooms c.args.out.now c.take_block.new.out (frame_of c.args.view) c.in_ok-code.field-0 c.in-Goes.due c.in-Goes.farewell c.in-Goes.dropped c.in-Goes.is (c.in_ok-code.ensures.taken before.0 before.1.terms (streams_so before.0 c.args.service.passing c.is_streaming-at_once.result before.1.passing c.is_streaming-at_once.ensures)) in
+    block_goes before.0 c.args.rooms.now c.take_block.new.rooms c.args.out.now c.take_block.new.out (frame_of c.args.view) c.in_ok-code.field-0 c.in-Goes.due c.in-Goes.farewell c.in-Goes.dropped c.in-Goes.is (c.in_ok-code.ensures.taken before.0 before.1.terms (outlet_so before.0 c.args.service c.is_streaming-at_once.result before.1 c.is_streaming-at_once.ensures)) in
     let here =
     farewell_brings before.0 c.args.rooms.now c.take_block.new.rooms c.say_farewell.new.rooms c.args.out.now c.take_block.new.out c.say_farewell.new.out (frame_of c.args.view) c.in-Goes.due c.in-Goes.farewell c.in-Goes.dropped passed
     (λ due back. c.in_ok-say_farewell-in-Goes.ensures.performs before.0 due back) before.2.0 before.2.1 before.2.2 in
@@ -43,7 +44,7 @@ pub return_dropped-requires : goal.return_dropped-requires
 return_dropped-requires c =
     let before = c.requires.reached in
     let passed =
-    block_goes before.0 c.args.rooms.now c.take_block.new.rooms c.args.out.now c.take_block.new.out (frame_of c.args.view) c.in_ok-code.field-0 c.in-Goes.due c.in-Goes.farewell c.in-Goes.dropped c.in-Goes.is (c.in_ok-code.ensures.taken before.0 before.1.terms (streams_so before.0 c.args.service.passing c.is_streaming-at_once.result before.1.passing c.is_streaming-at_once.ensures)) in
+    block_goes before.0 c.args.rooms.now c.take_block.new.rooms c.args.out.now c.take_block.new.out (frame_of c.args.view) c.in_ok-code.field-0 c.in-Goes.due c.in-Goes.farewell c.in-Goes.dropped c.in-Goes.is (c.in_ok-code.ensures.taken before.0 before.1.terms (outlet_so before.0 c.args.service c.is_streaming-at_once.result before.1 c.is_streaming-at_once.ensures)) in
     let here =
     block_brings before.0 c.args.rooms.now c.take_block.new.rooms c.say_farewell.new.rooms c.serve.new.rooms c.args.out.now c.take_block.new.out c.say_farewell.new.out c.serve.new.out (frame_of c.args.view) c.in-Goes.due c.in-Goes.farewell c.in-Goes.dropped passed
     (λ due back. c.in_ok-say_farewell-in-Goes.ensures.performs before.0 due back) (λ n back. c.in_ok-serve-in-Goes.ensures.performs before.0 n back before.1.passing) before.2.0 before.2.1 before.2.2 in
@@ -53,7 +54,7 @@ pub rest_behind-requires-clause-reached : goal.rest_behind-requires-clause-reach
 rest_behind-requires-clause-reached c =
     let before = c.requires.reached in
     let passed =
-    block_goes before.0 c.args.rooms.now c.take_block.new.rooms c.args.out.now c.take_block.new.out (frame_of c.args.view) c.in_ok-code.field-0 c.in-Goes.due c.in-Goes.farewell c.in-Goes.dropped c.in-Goes.is (c.in_ok-code.ensures.taken before.0 before.1.terms (streams_so before.0 c.args.service.passing c.is_streaming-at_once.result before.1.passing c.is_streaming-at_once.ensures)) in
+    block_goes before.0 c.args.rooms.now c.take_block.new.rooms c.args.out.now c.take_block.new.out (frame_of c.args.view) c.in_ok-code.field-0 c.in-Goes.due c.in-Goes.farewell c.in-Goes.dropped c.in-Goes.is (c.in_ok-code.ensures.taken before.0 before.1.terms (outlet_so before.0 c.args.service c.is_streaming-at_once.result before.1 c.is_streaming-at_once.ensures)) in
     let here =
     block_brings before.0 c.args.rooms.now c.take_block.new.rooms c.say_farewell.new.rooms c.serve.new.rooms c.args.out.now c.take_block.new.out c.say_farewell.new.out c.serve.new.out (frame_of c.args.view) c.in-Goes.due c.in-Goes.farewell c.in-Goes.dropped passed
     (λ due back. c.in_ok-say_farewell-in-Goes.ensures.performs before.0 due back) (λ n back. c.in_ok-serve-in-Goes.ensures.performs before.0 n back before.1.passing) before.2.0 before.2.1 before.2.2 in
@@ -65,14 +66,14 @@ pub rest_behind-requires-clause-none_cut : goal.rest_behind-requires-clause-none
 rest_behind-requires-clause-none_cut c =
     let before = c.requires.reached in
     let passed =
-    block_goes before.0 c.args.rooms.now c.take_block.new.rooms c.args.out.now c.take_block.new.out (frame_of c.args.view) c.in_ok-code.field-0 c.in-Goes.due c.in-Goes.farewell c.in-Goes.dropped c.in-Goes.is (c.in_ok-code.ensures.taken before.0 before.1.terms (streams_so before.0 c.args.service.passing c.is_streaming-at_once.result before.1.passing c.is_streaming-at_once.ensures)) in
+    block_goes before.0 c.args.rooms.now c.take_block.new.rooms c.args.out.now c.take_block.new.out (frame_of c.args.view) c.in_ok-code.field-0 c.in-Goes.due c.in-Goes.farewell c.in-Goes.dropped c.in-Goes.is (c.in_ok-code.ensures.taken before.0 before.1.terms (outlet_so before.0 c.args.service c.is_streaming-at_once.result before.1 c.is_streaming-at_once.ensures)) in
     subst (λ (o : offering.State). NoneCut o) (sym (c.in_ok-return_dropped-in-Goes.ensures.stays.offers ∙ c.in_ok-serve-in-Goes.ensures.stays.1 ∙ c.in_ok-say_farewell-in-Goes.ensures.stays.1)) passed.none_cut
 
 pub rest_behind-requires-clause-none_but : goal.rest_behind-requires-clause-none_but
 rest_behind-requires-clause-none_but c =
     let before = c.requires.reached in
     let passed =
-    block_goes before.0 c.args.rooms.now c.take_block.new.rooms c.args.out.now c.take_block.new.out (frame_of c.args.view) c.in_ok-code.field-0 c.in-Goes.due c.in-Goes.farewell c.in-Goes.dropped c.in-Goes.is (c.in_ok-code.ensures.taken before.0 before.1.terms (streams_so before.0 c.args.service.passing c.is_streaming-at_once.result before.1.passing c.is_streaming-at_once.ensures)) in
+    block_goes before.0 c.args.rooms.now c.take_block.new.rooms c.args.out.now c.take_block.new.out (frame_of c.args.view) c.in_ok-code.field-0 c.in-Goes.due c.in-Goes.farewell c.in-Goes.dropped c.in-Goes.is (c.in_ok-code.ensures.taken before.0 before.1.terms (outlet_so before.0 c.args.service c.is_streaming-at_once.result before.1 c.is_streaming-at_once.ensures)) in
     but_stays c.args.view.id c.serve.new.rooms c.return_dropped.new.rooms c.in_ok-return_dropped-in-Goes.ensures.stays.served (ap (λ (u : State). lives u.live) c.in_ok-return_dropped-in-Goes.ensures.stays.upstreams)
     (c.in_ok-serve-in-Goes.ensures.none_but c.args.view.id
     (but_stays c.args.view.id c.take_block.new.rooms c.say_farewell.new.rooms (λ stream. ap (λ (i : Inbound). is_served i.rows stream) c.in_ok-say_farewell-in-Goes.ensures.stays.0) (ap (λ (u : State). lives u.live) c.in_ok-say_farewell-in-Goes.ensures.upstreams)
@@ -82,14 +83,14 @@ pub rest_behind-requires-clause-numbered : goal.rest_behind-requires-clause-numb
 rest_behind-requires-clause-numbered c id kept =
     let before = c.requires.reached in
     let passed =
-    block_goes before.0 c.args.rooms.now c.take_block.new.rooms c.args.out.now c.take_block.new.out (frame_of c.args.view) c.in_ok-code.field-0 c.in-Goes.due c.in-Goes.farewell c.in-Goes.dropped c.in-Goes.is (c.in_ok-code.ensures.taken before.0 before.1.terms (streams_so before.0 c.args.service.passing c.is_streaming-at_once.result before.1.passing c.is_streaming-at_once.ensures)) in
+    block_goes before.0 c.args.rooms.now c.take_block.new.rooms c.args.out.now c.take_block.new.out (frame_of c.args.view) c.in_ok-code.field-0 c.in-Goes.due c.in-Goes.farewell c.in-Goes.dropped c.in-Goes.is (c.in_ok-code.ensures.taken before.0 before.1.terms (outlet_so before.0 c.args.service c.is_streaming-at_once.result before.1 c.is_streaming-at_once.ensures)) in
     numbered_with c.args.rooms.now c.take_block.new.rooms c.args.view.id passed.ids c.requires.of_stream c.requires.settled.numbered id
     (subst (λ (i : Inbound). has i.rows id ≡ true) (c.in_ok-serve-in-Goes.ensures.stays.0 ∙ c.in_ok-say_farewell-in-Goes.ensures.stays.0) (sym (c.in_ok-return_dropped-in-Goes.ensures.stays.opened id) ∙ kept))
 
 pub returns-in_ok-end-in-Fatal-clause-comes : goal.returns-in_ok-end-in-Fatal-clause-comes
 returns-in_ok-end-in-Fatal-clause-comes c setup served =
     let fatal =
-    block_ends setup c.args.rooms.now c.take_block.new.rooms c.args.out.now c.take_block.new.out (frame_of c.args.view) c.in_ok-code.field-0 c.in-Fatal.code c.in-Fatal.is (c.in_ok-code.ensures.taken setup served.terms (streams_so setup c.args.service.passing c.is_streaming-at_once.result served.passing c.is_streaming-at_once.ensures)) in
+    block_ends setup c.args.rooms.now c.take_block.new.rooms c.args.out.now c.take_block.new.out (frame_of c.args.view) c.in_ok-code.field-0 c.in-Fatal.code c.in-Fatal.is (c.in_ok-code.ensures.taken setup served.terms (outlet_so setup c.args.service c.is_streaming-at_once.result served c.is_streaming-at_once.ensures)) in
     fatal_comes setup c.args.rooms.now c.take_block.new.rooms c.args.out.now c.take_block.new.out c.end.new.out (frame_of c.args.view) fatal.note (λ s. fatal.next) c.in-Fatal.code c.requires.settled.rest fatal.nothing_put fatal.upstreams fatal.rows fatal.untaken fatal.fault fatal.fatal
     (λ run s kept d. c.in_ok-end-in-Fatal.ensures setup run s kept d)
 
@@ -98,7 +99,7 @@ returns-in_ok-return_dropped-in-Goes-clause-comes c =
     if_ok c.rest_behind.result
     (λ went follows setup served.
     let passed =
-    block_goes setup c.args.rooms.now c.take_block.new.rooms c.args.out.now c.take_block.new.out (frame_of c.args.view) c.in_ok-code.field-0 c.in-Goes.due c.in-Goes.farewell c.in-Goes.dropped c.in-Goes.is (c.in_ok-code.ensures.taken setup served.terms (streams_so setup c.args.service.passing c.is_streaming-at_once.result served.passing c.is_streaming-at_once.ensures)) in
+    block_goes setup c.args.rooms.now c.take_block.new.rooms c.args.out.now c.take_block.new.out (frame_of c.args.view) c.in_ok-code.field-0 c.in-Goes.due c.in-Goes.farewell c.in-Goes.dropped c.in-Goes.is (c.in_ok-code.ensures.taken setup served.terms (outlet_so setup c.args.service c.is_streaming-at_once.result served c.is_streaming-at_once.ensures)) in
     let returned = c.in_ok-return_dropped-in-Goes.ensures.performs in
     comes_then setup c.args.rooms.now c.return_dropped.new.rooms square (back_of returned.0) square c.args.out.now c.return_dropped.new.out c.rest_behind.new.out (Came (record { frame = frame_of c.args.view; note = passed.note })) (OfFrame (frame_of c.args.view)) (now_of went c.rest_behind.new.rooms) refl
     (brings_then setup c.args.rooms.now c.serve.new.rooms c.return_dropped.new.rooms square (back_of c.in-Goes.dropped) (back_of returned.0) c.args.out.now c.serve.new.out c.return_dropped.new.out (Came (record { frame = frame_of c.args.view; note = passed.note }))
@@ -111,14 +112,14 @@ returns-in_ok-return_dropped-in-Goes-clause-comes c =
 pub returns-in_err-code-clause-over : goal.returns-in_err-code-clause-over
 returns-in_err-code-clause-over c =
     stopped c.from_residual.result c.in_err-code.field-0.0 c.from_residual.ensures.1
-    (λ comes setup served. comes setup served.terms (streams_so setup c.args.service.passing c.is_streaming-at_once.result served.passing c.is_streaming-at_once.ensures)) c.in_err-code.ensures.over
+    (λ comes setup served. comes setup served.terms (outlet_so setup c.args.service c.is_streaming-at_once.result served c.is_streaming-at_once.ensures)) c.in_err-code.ensures.over
 
 pub returns-in_err-say_farewell-in-Goes-clause-over : goal.returns-in_err-say_farewell-in-Goes-clause-over
 returns-in_err-say_farewell-in-Goes-clause-over c =
     stopped c.from_residual-in_err-say_farewell-in-Goes.result c.in_err-say_farewell-in-Goes.field-0.0 c.from_residual-in_err-say_farewell-in-Goes.ensures.1
     (λ ends setup served.
     let passed =
-    block_goes setup c.args.rooms.now c.take_block.new.rooms c.args.out.now c.take_block.new.out (frame_of c.args.view) c.in_ok-code.field-0 c.in-Goes.due c.in-Goes.farewell c.in-Goes.dropped c.in-Goes.is (c.in_ok-code.ensures.taken setup served.terms (streams_so setup c.args.service.passing c.is_streaming-at_once.result served.passing c.is_streaming-at_once.ensures)) in
+    block_goes setup c.args.rooms.now c.take_block.new.rooms c.args.out.now c.take_block.new.out (frame_of c.args.view) c.in_ok-code.field-0 c.in-Goes.due c.in-Goes.farewell c.in-Goes.dropped c.in-Goes.is (c.in_ok-code.ensures.taken setup served.terms (outlet_so setup c.args.service c.is_streaming-at_once.result served c.is_streaming-at_once.ensures)) in
     calm_comes setup c.args.rooms.now c.take_block.new.rooms square (record square { owed = farewell_frames c.in-Goes.farewell; due = due_by c.in-Goes.due; shared = c.in-Goes.dropped }) c.args.out.now c.take_block.new.out c.say_farewell.new.out (Came (record { frame = frame_of c.args.view; note = passed.note })) (OfFrame (frame_of c.args.view)) refl
     passed.brings
     (calm_ends setup c.take_block.new.rooms (record square { owed = farewell_frames c.in-Goes.farewell; due = due_by c.in-Goes.due; shared = c.in-Goes.dropped }) (inl (farewell_owed c.in-Goes.farewell ends.0)) (passed.alone ends.0 ends.1.0) c.take_block.new.out c.say_farewell.new.out ends.1)) c.in_err-say_farewell-in-Goes.ensures.over
@@ -128,7 +129,7 @@ returns-in_err-return_dropped-in-Goes-clause-over c =
     stopped c.from_residual-in_err-return_dropped-in-Goes.result c.in_err-return_dropped-in-Goes.field-0.0 c.from_residual-in_err-return_dropped-in-Goes.ensures.1
     (λ ends setup served.
     let passed =
-    block_goes setup c.args.rooms.now c.take_block.new.rooms c.args.out.now c.take_block.new.out (frame_of c.args.view) c.in_ok-code.field-0 c.in-Goes.due c.in-Goes.farewell c.in-Goes.dropped c.in-Goes.is (c.in_ok-code.ensures.taken setup served.terms (streams_so setup c.args.service.passing c.is_streaming-at_once.result served.passing c.is_streaming-at_once.ensures)) in
+    block_goes setup c.args.rooms.now c.take_block.new.rooms c.args.out.now c.take_block.new.out (frame_of c.args.view) c.in_ok-code.field-0 c.in-Goes.due c.in-Goes.farewell c.in-Goes.dropped c.in-Goes.is (c.in_ok-code.ensures.taken setup served.terms (outlet_so setup c.args.service c.is_streaming-at_once.result served c.is_streaming-at_once.ensures)) in
     calm_comes setup c.args.rooms.now c.serve.new.rooms square (back_of c.in-Goes.dropped) c.args.out.now c.serve.new.out c.return_dropped.new.out (Came (record { frame = frame_of c.args.view; note = passed.note })) (OfFrame (frame_of c.args.view)) refl
     (block_brings setup c.args.rooms.now c.take_block.new.rooms c.say_farewell.new.rooms c.serve.new.rooms c.args.out.now c.take_block.new.out c.say_farewell.new.out c.serve.new.out (frame_of c.args.view) c.in-Goes.due c.in-Goes.farewell c.in-Goes.dropped passed
     (λ due back. c.in_ok-say_farewell-in-Goes.ensures.performs setup due back) (λ n back. c.in_ok-serve-in-Goes.ensures.performs setup n back served.passing)) (ends setup)) c.in_err-return_dropped-in-Goes.ensures.over
@@ -138,7 +139,7 @@ returns-in_ok-return_dropped-in-Goes-clause-over c =
     on_over c.rest_behind.result
     (λ ends setup served.
     let passed =
-    block_goes setup c.args.rooms.now c.take_block.new.rooms c.args.out.now c.take_block.new.out (frame_of c.args.view) c.in_ok-code.field-0 c.in-Goes.due c.in-Goes.farewell c.in-Goes.dropped c.in-Goes.is (c.in_ok-code.ensures.taken setup served.terms (streams_so setup c.args.service.passing c.is_streaming-at_once.result served.passing c.is_streaming-at_once.ensures)) in
+    block_goes setup c.args.rooms.now c.take_block.new.rooms c.args.out.now c.take_block.new.out (frame_of c.args.view) c.in_ok-code.field-0 c.in-Goes.due c.in-Goes.farewell c.in-Goes.dropped c.in-Goes.is (c.in_ok-code.ensures.taken setup served.terms (outlet_so setup c.args.service c.is_streaming-at_once.result served c.is_streaming-at_once.ensures)) in
     let returned = c.in_ok-return_dropped-in-Goes.ensures.performs in
     calm_comes setup c.args.rooms.now c.return_dropped.new.rooms square (back_of returned.0) c.args.out.now c.return_dropped.new.out c.rest_behind.new.out (Came (record { frame = frame_of c.args.view; note = passed.note })) (OfFrame (frame_of c.args.view)) refl
     (brings_then setup c.args.rooms.now c.serve.new.rooms c.return_dropped.new.rooms square (back_of c.in-Goes.dropped) (back_of returned.0) c.args.out.now c.serve.new.out c.return_dropped.new.out (Came (record { frame = frame_of c.args.view; note = passed.note }))

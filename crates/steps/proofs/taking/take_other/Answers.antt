@@ -1,4 +1,4 @@
-use Rattle.std.proofs.Common.{◌≡◌, true, sym, ◌∙◌, ap, refl, subst}
+use Rattle.std.proofs.Common.{◌≡◌, ◌<◌, true, false, sym, ◌∙◌, ap, refl, subst}
 use Rattle.model.specs.Tapes.Entry.{Came}
 use Rattle.model.specs.WindowsOnTape.{is_any, data_length}
 use Rattle.conduct.specs.Quiet.{noted_of}
@@ -6,6 +6,7 @@ use Rattle.frames.specs.Views.{frame_of}
 use Rattle.judgement.specs.Inbound.{Inbound}
 use Rattle.offering.specs.State as offering
 use Rattle.streams_kept.specs.Asked.{has}
+use Rattle.marks_kept.specs.Sides.{is_past}
 use Rattle.relay.specs.View.{square}
 use Rattle.relay.specs.Rest.{NoneCut}
 use Rattle.steps.proofs.Calming.{calm_comes}
@@ -41,6 +42,14 @@ follow-requires-clause-last c =
     let passed =
     plain_goes before.0 c.args.rooms.now c.take_plain.new.rooms c.args.out.now c.take_plain.new.out (frame_of c.args.view) c.in_ok-code.field-0 c.in-Goes.due c.in-Goes.dropped c.in-Goes.is (c.in_ok-code.ensures.taken before.0 before.1.terms.max_body) in
     sym (ap (λ (i : Inbound). i.last) c.in_ok-serve-in-Goes.ensures.stays.0 ∙ passed.last)
+
+pub follow-requires-clause-newest : goal.follow-requires-clause-newest
+follow-requires-clause-newest c some =
+    let before = c.requires.reached in
+    let passed =
+    plain_goes before.0 c.args.rooms.now c.take_plain.new.rooms c.args.out.now c.take_plain.new.out (frame_of c.args.view) c.in_ok-code.field-0 c.in-Goes.due c.in-Goes.dropped c.in-Goes.is (c.in_ok-code.ensures.taken before.0 before.1.terms.max_body) in
+    subst (λ n. is_past n c.serve.new.rooms.marks ≡ false) passed.last
+    (c.in_ok-serve-in-Goes.ensures.newest (subst (λ n. is_past n c.take_plain.new.rooms.marks ≡ false) (sym passed.last) (passed.newest (subst (λ n. 0 < n) c.data_octets.ensures some))))
 
 pub follow-requires-clause-none_cut : goal.follow-requires-clause-none_cut
 follow-requires-clause-none_cut c =

@@ -1,24 +1,25 @@
-use Rattle.std.proofs.Common.{◌∙◌, ap, sym}
+use Rattle.std.proofs.Common.{◌≡◌, ◌==◌, ℕ, suc, true, false, ◌∙◌, ap, sym, subst}
 use Rattle.std.specs.Prelude.{reverse}
+use Rattle.std.proofs.lemmas.Bool.{eqb-true, eqb-false}
 use Rattle.std.proofs.lemmas.List.{nil_from_length}
-use Rattle.serving.specs.State.{find}
-use Rattle.upstreams.specs.Connections.{stream_of}
+use Rattle.serving.specs.Lines.{find}
+use Rattle.upstreams.specs.Connections.{works_for}
 use Rattle.upstreams.proofs.Openings.{newest_found, newest_other}
 use Rattle.upstreams.proofs.connections.of_stream.Goals as goal
 
-pub returns-then-stream-id : goal.returns-then-stream-id
-returns-then-stream-id c =
+pub returns-then-works_for : goal.returns-then-works_for
+returns-then-works_for c =
     sym c.loop-connection.invariant
-    ∙ ap (λ cs. find stream_of c.args.id (reverse cs)) c.in-Some.ensures.steps
-    ∙ newest_found c.args.id c.next.new.self.iter.rest.now c.in-Some.connection.now (sym c.stream.ensures ∙ c.if-stream-id.true)
+    ∙ ap (λ cs. find works_for (suc c.args.id) (reverse cs)) c.in-Some.ensures.steps
+    ∙ newest_found (suc c.args.id) c.next.new.self.iter.rest.now c.in-Some.connection.now (eqb-true (works_for c.in-Some.connection.now) (suc c.args.id) (sym c.works_for.ensures ∙ c.if-works_for.true))
 
 pub loop-connection-preserved : goal.loop-connection-preserved
 loop-connection-preserved c =
-    sym (newest_other c.args.id c.next.new.self.iter.rest.now c.in-Some.connection.now (λ same. c.if-stream-id.false (c.stream.ensures ∙ same)))
-    ∙ sym (ap (λ cs. find stream_of c.args.id (reverse cs)) c.in-Some.ensures.steps)
+    sym (newest_other (suc c.args.id) c.next.new.self.iter.rest.now c.in-Some.connection.now (eqb-false (works_for c.in-Some.connection.now) (suc c.args.id) (sym c.works_for.ensures ∙ c.if-works_for.false)))
+    ∙ sym (ap (λ cs. find works_for (suc c.args.id) (reverse cs)) c.in-Some.ensures.steps)
     ∙ c.loop-connection.invariant
 
 pub returns : goal.returns
 returns c =
     sym c.loop-connection.invariant
-    ∙ ap (λ cs. find stream_of c.args.id (reverse cs)) (nil_from_length c.loop-connection.connection-iterator.iter.rest.now c.in-None.ensures.steps.0)
+    ∙ ap (λ cs. find works_for (suc c.args.id) (reverse cs)) (nil_from_length c.loop-connection.connection-iterator.iter.rest.now c.in-None.ensures.steps.0)

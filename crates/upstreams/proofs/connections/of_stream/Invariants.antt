@@ -1,8 +1,8 @@
-use Rattle.std.proofs.Common.{◌≡◌}
+use Rattle.std.proofs.Common.{◌≡◌, suc}
 use Rattle.std.specs.Prelude.{reverse}
-use Rattle.serving.specs.State.{find}
-use Rattle.upstreams.specs.Connections.{stream_of}
+use Rattle.serving.specs.Lines.{find}
+use Rattle.upstreams.specs.Connections.{works_for}
 use Rattle.upstreams.proofs.connections.of_stream.Given as goal
 
 abbrev pub invariant-loop-connection : goal.invariant-loop-connection
-invariant-loop-connection l = find stream_of l.id (reverse l.connection-iterator.iter.rest.now) ≡ find stream_of l.id (reverse l.connections)
+invariant-loop-connection l = find works_for (suc l.id) (reverse l.connection-iterator.iter.rest.now) ≡ find works_for (suc l.id) (reverse l.connections)

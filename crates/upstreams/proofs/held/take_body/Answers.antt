@@ -1,4 +1,4 @@
-use Rattle.std.proofs.Common.{rules, ◌≡◌, true, false, sym, ap, ◌∙◌, subst}
+use Rattle.std.proofs.Common.{rules, ◌≡◌, true, false, [], sym, ap, ◌∙◌, subst}
 use Rattle.std.specs.Prelude.{reverse, Some, None, slice_index_or}
 use Rattle.std.proofs.lemmas.List.{get_or_read}
 use Rattle.std.proofs.lemmas.Result.{IfOk-weaker}
@@ -26,10 +26,10 @@ returns-then-not-ends-clause-takes c =
     let there : c.index_mut.result.now ≡ slice_index_or c.args.held.now.items c.in-Some.place no_held = get_or_read c.args.held.now.items c.in-Some.place c.index_mut.result.now is.within c.index_mut.ensures.value no_held in
     let ends : c.args.ends ≡ false = search rules in
     IfOk-weaker c.go_on.result
-    (λ due. GoesBy c.index_mut.result.now.id c.args.octets.now c.args.trailers.now false c.index_mut.result.now.way (due_by due) (Some c.go_on.new.self.way))
+    (λ due. GoesBy [] c.index_mut.result.now.id c.args.octets.now c.args.trailers.now false c.index_mut.result.now.way (due_by due) (Some c.go_on.new.self.way))
     _
     (λ due goes. goes_there c.args.held.now.items c.requires.apart c.args.id c.in-Some.place is c.args.octets.now c.args.trailers.now c.args.ends (due_by due) c.go_on.new.self ends (c.go_on.ensures.same ∙ ap (λ (h : Held). h.id) there)
-    (subst (λ (h : Held). GoesBy h.id c.args.octets.now c.args.trailers.now false h.way (due_by due) (Some c.go_on.new.self.way)) there goes))
+    (subst (λ (h : Held). GoesBy [] h.id c.args.octets.now c.args.trailers.now false h.way (due_by due) (Some c.go_on.new.self.way)) there goes))
     c.go_on.ensures.goes
 
 pub returns-then-not-ends-clause-apart : goal.returns-then-not-ends-clause-apart
@@ -67,10 +67,10 @@ returns-clause-takes c =
     let out : c.remove.result ≡ slice_index_or c.args.held.now.items c.in-Some.place no_held = get_or_read c.args.held.now.items c.in-Some.place c.remove.result is.within c.remove.ensures.value no_held in
     let ends : c.args.ends ≡ true = search rules in
     IfOk-weaker c.finish.result
-    (λ due. GoesBy c.remove.result.id c.args.octets.now c.args.trailers.now true c.remove.result.way (due_by due) None)
+    (λ due. GoesBy [] c.remove.result.id c.args.octets.now c.args.trailers.now true c.remove.result.way (due_by due) None)
     _
     (λ due goes. ends_there c.args.held.now.items c.requires.apart c.args.id c.in-Some.place is c.args.octets.now c.args.trailers.now c.args.ends (due_by due) c.remove.new.self.items ends c.remove.ensures.items (λ dropped. c.if-is_dropped.ensures (ap (λ (h : Held). h.way) there ∙ dropped))
-    (subst (λ (h : Held). GoesBy h.id c.args.octets.now c.args.trailers.now true h.way (due_by due) None) out goes))
+    (subst (λ (h : Held). GoesBy [] h.id c.args.octets.now c.args.trailers.now true h.way (due_by due) None) out goes))
     c.finish.ensures
 
 pub returns-clause-apart : goal.returns-clause-apart

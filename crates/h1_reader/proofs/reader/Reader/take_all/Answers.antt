@@ -1,20 +1,24 @@
-use Rattle.std.proofs.Common.{◌∙◌, sym}
 use Rattle.std.proofs.lemmas.List.{take_rest}
-use Rattle.h1_reader.proofs.Joining.{gone_none, gone_more, gone_all, gone_fails}
+use Rattle.h1_reader.proofs.Ending.{to_none, to_more, to_fails, to_goes, to_learns, to_used}
 use Rattle.h1_reader.proofs.reader.Reader.take_all.Goals as goal
 
-pub loop-rest-init : goal.loop-rest-init
-loop-rest-init c = gone_none c.args.self.now c.args.told.now c.args.octets.now
+pub loop-self-init : goal.loop-self-init
+loop-self-init c = to_none c.args.self.now c.args.told.now c.args.octets.now c.requires.place
 
 pub returns-in-Err-clause-fault : goal.returns-in-Err-clause-fault
 returns-in-Err-clause-fault c =
-    λ n. gone_fails c.args.self.now c.loop-rest.self c.args.told.now c.loop-rest.told c.in-Err.fault c.args.octets.now c.loop-rest.rest.now c.requires c.loop-rest.invariant (c.in-Err.ensures.fault n)
+    λ n. to_fails c.args.self.now c.loop-self.self c.args.told.now c.loop-self.told c.in-Err.fault c.args.octets.now c.loop-self.rest.now c.requires.nothing c.loop-self.invariant (c.in-Err.ensures.fault n)
 
-pub loop-rest-preserved : goal.loop-rest-preserved
-loop-rest-preserved c =
-    rw (take_rest c.loop-rest.rest.now c.in-Ok.used)
-    (gone_more c.args.self.now c.loop-rest.self c.take.new.self c.args.told.now c.loop-rest.told c.take.new.told c.args.octets.now c.loop-rest.rest.now c.in-Ok.used c.loop-rest.invariant c.in-Ok.ensures.ok.2)
+pub loop-self-preserved : goal.loop-self-preserved
+loop-self-preserved c =
+    rw (take_rest c.loop-self.rest.now c.in-Ok.used)
+    (to_more c.args.self.now c.loop-self.self c.take.new.self c.args.told.now c.loop-self.told c.take.new.told c.args.octets.now c.loop-self.rest.now c.in-Ok.used c.requires.nothing c.loop-self.invariant c.in-Ok.ensures.ok.2 c.in-Ok.ensures.ends c.in-Ok.ensures.learns)
 
 pub returns-clause-ok : goal.returns-clause-ok
-returns-clause-ok c =
-    gone_all c.args.self.now c.loop-rest.self c.args.told.now c.loop-rest.told c.args.octets.now c.loop-rest.rest.now c.loop-rest.invariant (sym c.is_empty.ensures ∙ c.loop-rest-test.false)
+returns-clause-ok c = to_goes c.args.self.now c.loop-self.self c.args.told.now c.loop-self.told c.args.octets.now c.loop-self.rest.now c.loop-self.invariant
+
+pub returns-clause-used : goal.returns-clause-used
+returns-clause-used c = to_used c.args.self.now c.loop-self.self c.args.told.now c.loop-self.told c.args.octets.now c.loop-self.rest.now c.loop-self.invariant (c.stops.ensures.yes c.loop-self-test.false)
+
+pub returns-clause-learns : goal.returns-clause-learns
+returns-clause-learns c = to_learns c.args.self.now c.loop-self.self c.args.told.now c.loop-self.told c.args.octets.now c.loop-self.rest.now c.loop-self.invariant

@@ -12,8 +12,8 @@ returns-then-count-left-clause-ok c =
       c.requires.octets,
       omega arith,
       goes_all _ _ _ _ c.args.octets.now
-          (goes_joined c.args.self.now (record { to_head = c.self.inside.to_head; place = Chunk (c.args.left - length c.args.octets.now); held = record { octets = c.self.inside.held.items; connections = c.self.inside.connections.items } }) _ _ c.args.octets.now (hears_chunk c.args.self.now (record { to_head = c.self.inside.to_head; place = Chunk (c.args.left - length c.args.octets.now); held = record { octets = c.self.inside.held.items; connections = c.self.inside.connections.items } }) c.args.left c.args.octets.now c.requires.place c.if-count-left.true new)
-          (in_chunk_joins (record { to_head = c.self.inside.to_head; place = Chunk (c.args.left - length c.args.octets.now); held = record { octets = c.self.inside.held.items; connections = c.self.inside.connections.items } }) (c.args.left - length c.args.octets.now) refl) c.in_ok-chunk.ensures),
+          (goes_joined c.args.self.now (record { to_head = c.self.inside.to_head; place = Chunk (c.args.left - length c.args.octets.now); held = record { octets = c.self.inside.held.items; connections = c.self.inside.connections.items; keeps = c.self.inside.keeps } }) _ _ c.args.octets.now (hears_chunk c.args.self.now (record { to_head = c.self.inside.to_head; place = Chunk (c.args.left - length c.args.octets.now); held = record { octets = c.self.inside.held.items; connections = c.self.inside.connections.items; keeps = c.self.inside.keeps } }) c.args.left c.args.octets.now c.requires.place c.if-count-left.true new)
+          (in_chunk_joins (record { to_head = c.self.inside.to_head; place = Chunk (c.args.left - length c.args.octets.now); held = record { octets = c.self.inside.held.items; connections = c.self.inside.connections.items; keeps = c.self.inside.keeps } }) (c.args.left - length c.args.octets.now) refl) c.in_ok-chunk.ensures),
     )
 
 pub returns-clause-ok : goal.returns-clause-ok
@@ -22,8 +22,8 @@ returns-clause-ok c =
     let some : 0 < c.args.left = subst (λ (p : Place). IsKept p c.self.inside.held.items) (ap (λ (s : State). s.place) c.self.view_is ∙ c.requires.place) c.self.invariant.2 in (
       some,
       c.if-count-left.false,
-      goes_joined c.args.self.now (record { to_head = c.self.inside.to_head; place = ChunkEnd; held = record { octets = c.self.inside.held.items; connections = c.self.inside.connections.items } }) _ _ (take c.args.left c.args.octets.now)
-          (hears_chunk_all c.args.self.now (record { to_head = c.self.inside.to_head; place = ChunkEnd; held = record { octets = c.self.inside.held.items; connections = c.self.inside.connections.items } }) c.args.left (take c.args.left c.args.octets.now) c.requires.place fits
+      goes_joined c.args.self.now (record { to_head = c.self.inside.to_head; place = ChunkEnd; held = record { octets = c.self.inside.held.items; connections = c.self.inside.connections.items; keeps = c.self.inside.keeps } }) _ _ (take c.args.left c.args.octets.now)
+          (hears_chunk_all c.args.self.now (record { to_head = c.self.inside.to_head; place = ChunkEnd; held = record { octets = c.self.inside.held.items; connections = c.self.inside.connections.items; keeps = c.self.inside.keeps } }) c.args.left (take c.args.left c.args.octets.now) c.requires.place fits
           (ap (λ (s : State). record { to_head = s.to_head; place = ChunkEnd; held = s.held }) c.self.view_is))
-          (behind_chunk_joins (record { to_head = c.self.inside.to_head; place = ChunkEnd; held = record { octets = c.self.inside.held.items; connections = c.self.inside.connections.items } }) refl) c.in_ok-chunk-2.ensures,
+          (behind_chunk_joins (record { to_head = c.self.inside.to_head; place = ChunkEnd; held = record { octets = c.self.inside.held.items; connections = c.self.inside.connections.items; keeps = c.self.inside.keeps } }) refl) c.in_ok-chunk-2.ensures,
     )

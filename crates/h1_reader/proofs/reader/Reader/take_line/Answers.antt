@@ -24,5 +24,5 @@ returns-in-Some-Whole-eq0-clause-ok c =
     let step = rw size at c.in-Some-Whole-eq0.ensures in (
       refl,
       hears_last c.args.self.now _ c.args.line c.args.octet c.requires.place step.goes no_trailers_yet trailers_may_come
-          (λ i. record { to_head = (c.self.view_is i).to_head; place = Trailers; held = record { octets = c.new.ensures.items i; connections = (c.self.view_is i).held.connections } }),
+          (λ i. record { to_head = (c.self.view_is i).to_head; place = Trailers; held = record { octets = c.new.ensures.items i; connections = (c.self.view_is i).held.connections; keeps = (c.self.view_is i).held.keeps } }),
     )

@@ -6,6 +6,7 @@ use Rattle.h1_reader.specs.declared.reader.Place.{Place}
 use Rattle.h1_reader.specs.declared.reader.Place.TheVariants.{Past, Sized}
 use Rattle.h1_reader.proofs.Steps.{hears_sized, hears_sized_all, all_taken}
 use Rattle.h1_reader.proofs.Joining.{goes_on}
+use Rattle.h1_reader.proofs.Ending.{ends_sized}
 use Rattle.h1_reader.proofs.reader.Reader.take_sized.Goals as goal
 
 pub returns-then-count-left-clause-ok : goal.returns-then-count-left-clause-ok
@@ -34,3 +35,6 @@ returns-clause-ok c =
             (ap (λ (s : State). record { to_head = s.to_head; place = Past; held = s.held }) c.self.view_is),
       ),
     )
+
+pub returns-clause-ends : goal.returns-clause-ends
+returns-clause-ends c = ends_sized c.args.self.now (record { to_head = c.args.self.now.to_head; place = Past; held = c.args.self.now.held }) c.args.left (take c.args.left c.args.octets.now) c.requires.place (length-take-le c.args.left c.args.octets.now c.if-count-left.false)

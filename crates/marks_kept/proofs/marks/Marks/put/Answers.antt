@@ -1,11 +1,12 @@
 use Rattle.std.proofs.Common.{◌≡◌, ◌+◌, ◌<◌, ◌^◌, sym, ap, ◌∙◌, subst, List, None, Option}
 use Rattle.std.specs.Prelude.{IfSome}
 use Rattle.receiving_queue.specs.Counts.{AreSome}
-use Rattle.marks_kept.specs.Sides.{Side, find, change, putting}
+use Rattle.marks_kept.specs.Sides.{Side, find, change, putting, behind_of}
 use Rattle.marks_kept.specs.Places.{IsAt}
 use Rattle.marks_kept.proofs.Rising.{change_none}
 use Rattle.marks_kept.proofs.Changing.{found, some_read, changed_to, rising_to}
 use Rattle.marks_kept.proofs.Counted.{some_set}
+use Rattle.marks_kept.proofs.Behind.{behind_same}
 use Rattle.marks_kept.proofs.marks.Marks.put.Goals as goal
 
 pub put-requires : goal.put-requires
@@ -18,9 +19,11 @@ pub invariant_of-self : goal.invariant_of-self
 invariant_of-self c =
     let sides = c.self.inside.sides.items in
     let is : IsAt sides c.args.id c.in-Some.place = rw (← c.deref.ensures.value) c.in-Some.ensures.found in
-    let some : AreSome c.put.new.self.queue = subst (λ (s : Side). AreSome s.queue) (sym c.put.ensures) (some_read sides c.args.id c.in-Some.place c.self.invariant.0 is c.index_mut.result.now c.index_mut.ensures.value c.self.invariant.1) in (
-      rising_to sides c.args.id c.in-Some.place c.self.invariant.0 is c.index_mut.result.now c.index_mut.ensures.value c.put.new.self (ap (λ side. side.id) c.put.ensures),
+    let side = c.index_mut.result.now in
+    let some : AreSome c.put.new.self.queue = subst (λ (s : Side). AreSome s.queue) (sym c.put.ensures) (some_read sides c.args.id c.in-Some.place c.self.invariant.0 is side c.index_mut.ensures.value c.self.invariant.1) in (
+      rising_to sides c.args.id c.in-Some.place c.self.invariant.0 is side c.index_mut.ensures.value c.put.new.self (ap (λ side. side.id) c.put.ensures),
       some_set sides c.in-Some.place c.put.new.self c.self.invariant.1 some,
+      behind_same sides c.in-Some.place side c.put.new.self is.within c.index_mut.ensures.value (ap behind_of c.put.ensures) ∙ c.self.invariant.2,
     )
 
 pub returns-in-Some : goal.returns-in-Some

@@ -1,11 +1,12 @@
-use Rattle.std.proofs.Common.{◌≡◌, ◌+◌, ◌<◌, ◌^◌, sym, ap, ◌∙◌, subst, set, List, None, OnOk}
+use Rattle.std.proofs.Common.{◌≡◌, ◌+◌, ◌<◌, ◌^◌, false, sym, ap, ◌∙◌, subst, set, List, None, OnOk}
 use Rattle.receiving.specs.Marks.{total}
 use Rattle.receiving_queue.specs.Counts.{AreSome}
-use Rattle.marks_kept.specs.Sides.{Side, find, change, waiting, queue_if, queue_of}
+use Rattle.marks_kept.specs.Sides.{Side, find, change, waiting, queue_if, queue_of, is_past, is_past_if}
 use Rattle.marks_kept.specs.Places.{IsAt}
 use Rattle.marks_kept.proofs.Rising.{change_none}
 use Rattle.marks_kept.proofs.Changing.{on_ok, found, some_read, changed_to, rising_to}
 use Rattle.marks_kept.proofs.Counted.{some_set, some_more_wait}
+use Rattle.marks_kept.proofs.Behind.{behind_same, newest_none}
 use Rattle.marks_kept.proofs.marks.Marks.wait.Goals as goal
 
 pub wait-requires-clause-fits : goal.wait-requires-clause-fits
@@ -21,7 +22,11 @@ invariant_of-self c =
     let side = c.index_mut.result.now in
     let before : AreSome side.queue = some_read sides c.args.id c.in-Some.place c.self.invariant.0 is side c.index_mut.ensures.value c.self.invariant.1 in
     let some : AreSome c.wait.new.self.queue = some_more_wait c.args.count side c.wait.new.self c.wait.result c.requires.some before c.wait.ensures.added c.wait.ensures.unchanged in
-    (rising_to sides c.args.id c.in-Some.place c.self.invariant.0 is side c.index_mut.ensures.value c.wait.new.self c.wait.ensures.id, some_set sides c.in-Some.place c.wait.new.self c.self.invariant.1 some)
+    let newest : side.past ≡ false = sym (ap (λ (xs : List Side). is_past c.args.id xs) (sym c.self.view_is) ∙ ap is_past_if (found sides c.args.id c.in-Some.place c.self.invariant.0 is side c.index_mut.ensures.value)) ∙ c.requires.newest in (
+      rising_to sides c.args.id c.in-Some.place c.self.invariant.0 is side c.index_mut.ensures.value c.wait.new.self c.wait.ensures.id,
+      some_set sides c.in-Some.place c.wait.new.self c.self.invariant.1 some,
+      behind_same sides c.in-Some.place side c.wait.new.self is.within c.index_mut.ensures.value (newest_none c.wait.new.self (c.wait.ensures.past ∙ newest) ∙ sym (newest_none side newest)) ∙ c.self.invariant.2,
+    )
 
 pub returns-in-Some-clause-added : goal.returns-in-Some-clause-added
 returns-in-Some-clause-added c =

@@ -3,7 +3,7 @@ use Rattle.model.specs.Logs.{Output}
 use Rattle.model.specs.Logs.Output.{Does}
 use Rattle.model.specs.Logs.Act.{Close, CloseClient}
 use Rattle.model.specs.Tapes.{put}
-use Rattle.serving.specs.State.{Live}
+use Rattle.serving.specs.Lines.{Line}
 use Rattle.policy.specs.Ending.{closed_all}
 use Rattle.relay.specs.Performing.{put_all}
 use Rattle.steps.proofs.ending.Closes.{closes_more, closes_all, on_ok}
@@ -22,5 +22,5 @@ pub returns : goal.returns
 returns c =
     let all = closes_all c.connections-connections.result.now c.args.upstreams.now.live c.loop-connection.connection-index c.connections-connections.ensures.all c.loop-connection-test.false in
     on_ok c.close_client.result
-    (λ is. is ∙ ap (λ (o : List Output). put o (Does CloseClient)) (c.loop-connection.invariant ∙ ap (λ (ls : List Live). put_all c.args.out.now (closed_all ls)) all))
+    (λ is. is ∙ ap (λ (o : List Output). put o (Does CloseClient)) (c.loop-connection.invariant ∙ ap (λ (ls : List Line). put_all c.args.out.now (closed_all ls)) all))
     c.close_client.ensures

@@ -1,80 +1,102 @@
-use Rattle.std.proofs.Common.{◌<◌, refl, sym, ◌∙◌, ap, subst}
+use Rattle.std.proofs.Common.{◌<◌, false, ap, sym, ◌∙◌, subst}
+use Rattle.answers.specs.declared.answer.Ended.{Ended}
+use Rattle.answers.specs.declared.answer.Passing.TheVariants.{Streaming}
 use Rattle.model.specs.Logs.Event.{UpEnd}
 use Rattle.model.specs.Tapes.Entry.{Happened}
-use Rattle.answers.specs.declared.answer.Ended.{Ended}
-use Rattle.answers.specs.declared.answer.Ended.TheVariants as ended
-use Rattle.serving.specs.State.{find}
+use Rattle.serving.specs.Lines.{find}
+use Rattle.serving.specs.Lines.Heard.{Finished}
 use Rattle.streams_kept.specs.Asked.{has, is_active}
-use Rattle.upstreams.specs.Kept.{State}
-use Rattle.upstreams.specs.Connections.{number_of, answer_at}
-use Rattle.relay.specs.View.{View}
+use Rattle.judgement.specs.Inbound.{Inbound}
+use Rattle.offering.specs.State as offering
+use Rattle.upstreams.specs.Connections.{number_of, fresh}
+use Rattle.relay.specs.View.{View, square}
 use Rattle.relay.specs.Rest.{NoneCut, NoneDone}
+use Rattle.relay.specs.Bringing.{Brings}
 use Rattle.steps.specs.exchanges.Giving.{closed_at}
 use Rattle.steps.specs.exchanges.Taking.{IsEndTaken}
-use Rattle.steps.proofs.Closings.{but_one, if_stream}
+use Rattle.steps.proofs.Closings.{if_any, if_stream}
 use Rattle.steps.proofs.Results.{if_ok, on_over}
-use Rattle.steps.proofs.exchanges.Closes.{if_then, stream_active, stream_numbered, stream_kept, completes, cut_short, end_none_cut, abandoned_none_cut, abandoned_numbered, cut_short_over}
-use Rattle.steps.proofs.exchanges.Done.{marked, answered_none, answered_found, abandoned_none_but, whole_closes, whole_goes}
+use Rattle.steps.proofs.exchanges.Closes.{if_then, found_for, if_found, idle_for, stream_active, stream_numbered, stream_kept, cut_short, cut_short_over, end_none_cut, abandoned_none_cut, abandoned_numbered}
+use Rattle.steps.proofs.exchanges.Done.{answered_none, abandoned_none_but, closed_none_done}
+use Rattle.steps.proofs.exchanges.Finishes.{end_finished, end_open, end_finished_none, finished_offers, finished_inbound}
+use Rattle.steps.proofs.exchanges.Idles.{idle_ends}
 use Rattle.steps.proofs.exchanges.hearing.end.Goals as goal
+
+-- ---- of an idle one
+
+pub returns-in_default-clause-brings : goal.returns-in_default-clause-brings
+returns-in_default-clause-brings c setup =
+    let one = idle_for c.args.k c.args.rooms.now.upstreams.live c.served_by.result c.requires.opened c.served_by.ensures c.in_default.is in
+    subst (λ (v : View). Brings setup c.args.rooms.now square c.args.out.now (Happened (UpEnd c.args.k)) v square c.close.new.out) (sym c.in_ok-close.ensures.kept)
+    (subst (Brings setup c.args.rooms.now square c.args.out.now (Happened (UpEnd c.args.k)) (closed_at c.args.k c.args.rooms.now) square) (sym c.in_ok-close.ensures.puts)
+    (idle_ends setup c.args.rooms.now c.requires.rest c.args.k one.0 one.1 one.2 c.args.out.now))
+
+pub returns-in_default-clause-none_but : goal.returns-in_default-clause-none_but
+returns-in_default-clause-none_but c =
+    if_any (find number_of c.args.k c.args.rooms.now.upstreams.live) c.close.new.rooms (subst NoneDone (sym c.in_ok-close.ensures.kept) (closed_none_done c.args.k c.args.rooms.now c.requires.rest.none_done))
+
+-- ---- of one that works for a stream
+
+pub take_end-requires-clause-of : goal.take_end-requires-clause-of
+take_end-requires-clause-of c =
+    if_found c.args.k c.in-Some.stream c.args.rooms.now.upstreams.live (found_for c.args.k c.in-Some.stream c.args.rooms.now.upstreams.live c.served_by.result c.requires.opened c.served_by.ensures c.in-Some.is)
 
 pub take_end-requires-clause-kept : goal.take_end-requires-clause-kept
 take_end-requires-clause-kept c =
     let r = c.requires.reached in
-    stream_kept c.args.rooms.now c.requires.rest r.0 r.1.0 r.1.1 r.1.2 c.args.k c.stream_of-stream.result c.requires.opened c.stream_of-stream.ensures
+    let it = found_for c.args.k c.in-Some.stream c.args.rooms.now.upstreams.live c.served_by.result c.requires.opened c.served_by.ensures c.in-Some.is in
+    stream_kept c.args.rooms.now c.requires.rest r.0 r.1.0 r.1.1 r.1.2 c.args.k c.in-Some.stream it
 
 pub abandon-requires-clause-live : goal.abandon-requires-clause-live
 abandon-requires-clause-live c =
     let r = c.requires.reached in
-    ap (λ (v : View). is_active v.inbound.rows c.stream_of-stream.result) c.in_ok-take_end.ensures.is
-    ∙ stream_active c.args.rooms.now c.requires.rest r.0 r.1.0 r.1.1 r.1.2 c.args.k c.stream_of-stream.result c.requires.opened c.stream_of-stream.ensures
+    let it = found_for c.args.k c.in-Some.stream c.args.rooms.now.upstreams.live c.served_by.result c.requires.opened c.served_by.ensures c.in-Some.is in
+    ap (λ (v : View). is_active v.inbound.rows c.in-Some.stream) c.in_ok-take_end.ensures.is ∙ stream_active c.args.rooms.now c.requires.rest r.0 r.1.0 r.1.1 r.1.2 c.args.k c.in-Some.stream it
 
 pub abandon-requires-clause-numbered : goal.abandon-requires-clause-numbered
 abandon-requires-clause-numbered c =
     let r = c.requires.reached in
-    stream_numbered c.args.rooms.now c.requires.rest r.0 r.1.0 r.1.1 r.1.2 c.args.k c.stream_of-stream.result c.requires.opened c.stream_of-stream.ensures c.requires.numbered
+    let it = found_for c.args.k c.in-Some.stream c.args.rooms.now.upstreams.live c.served_by.result c.requires.opened c.served_by.ensures c.in-Some.is in
+    stream_numbered c.args.rooms.now c.requires.rest r.0 r.1.0 r.1.1 r.1.2 c.args.k c.in-Some.stream it c.requires.numbered
 
-pub returns-in_ok-close-in-Complete-clause-brings : goal.returns-in_ok-close-in-Complete-clause-brings
-returns-in_ok-close-in-Complete-clause-brings c setup =
-    let middle : View = record { inbound = c.rooms.inside.inbound; offers = c.rooms.inside.offers; upstreams = c.rooms.inside.upstreams; marks = c.rooms.inside.marks; encoding = c.rooms.inside.encoder; untaken = c.rooms.inside.untaken } in
-    let taken : IsEndTaken c.args.rooms.now c.args.k ended.Complete middle =
-    subst (λ (v : View). IsEndTaken c.args.rooms.now c.args.k ended.Complete v) (sym c.rooms.view_is)
-    (subst (λ (h : Ended). IsEndTaken c.args.rooms.now c.args.k h c.take_end.new.rooms) c.in-Complete.is c.in_ok-take_end.ensures) in
-    whole_closes setup c.args.rooms.now middle c.close.new.rooms c.args.k (answer_at c.args.k taken.answer taken.connection) (Happened (UpEnd c.args.k)) c.args.out.now c.close.new.out
-    (ap (λ (v : View). find number_of c.args.k v.upstreams.live) taken.is ∙ answered_found c.args.k taken.answer c.args.rooms.now.upstreams.live taken.connection taken.found)
-    (completes c.args.rooms.now c.requires.rest c.args.k c.args.out.now setup middle (marked c.args.k middle) taken refl)
-    (c.in_ok-close-in-Complete.ensures.kept ∙ ap (λ (u : State). closed_at c.args.k (record middle { upstreams = u })) c.mark_whole.ensures) c.in_ok-close-in-Complete.ensures.puts
+-- its response is whole with it
+pub finish-requires : goal.finish-requires
+finish-requires c = record { opened = end_open c.args.rooms.now c.args.k c.in_ok-take_end.field-0 c.take_end.new.rooms c.in_ok-take_end.ensures }
 
-pub returns-in_ok-close-in-Complete-clause-none_cut : goal.returns-in_ok-close-in-Complete-clause-none_cut
-returns-in_ok-close-in-Complete-clause-none_cut c =
-    subst (λ (v : View). NoneCut v.offers) (sym c.in_ok-close-in-Complete.ensures.kept)
-    (subst (λ (v : View). NoneCut v.offers) (sym c.rooms.view_is)
-    (end_none_cut c.args.rooms.now c.args.k c.in_ok-take_end.field-0 c.take_end.new.rooms c.requires.rest.none_cut c.in_ok-take_end.ensures))
+pub returns-in_ok-finish-in-Complete-clause-brings : goal.returns-in_ok-finish-in-Complete-clause-brings
+returns-in_ok-finish-in-Complete-clause-brings c setup =
+    let it = found_for c.args.k c.in-Some.stream c.args.rooms.now.upstreams.live c.served_by.result c.requires.opened c.served_by.ensures c.in-Some.is in
+    end_finished c.args.rooms.now c.requires.rest c.args.k c.args.out.now setup c.in-Some.stream it c.take_end.new.rooms c.finish.new.rooms c.finish.new.out (subst (λ (h : Ended). IsEndTaken c.args.rooms.now c.args.k h c.take_end.new.rooms) c.in-Complete.is c.in_ok-take_end.ensures) c.in_ok-finish-in-Complete.ensures.kept c.in_ok-finish-in-Complete.ensures.puts
 
-pub returns-in_ok-close-in-Complete-clause-none_but : goal.returns-in_ok-close-in-Complete-clause-none_but
-returns-in_ok-close-in-Complete-clause-none_but c =
-    let middle : View = record { inbound = c.rooms.inside.inbound; offers = c.rooms.inside.offers; upstreams = c.rooms.inside.upstreams; marks = c.rooms.inside.marks; encoding = c.rooms.inside.encoder; untaken = c.rooms.inside.untaken } in
-    let taken = c.in_ok-take_end.ensures in
-    if_stream (find number_of c.args.k c.args.rooms.now.upstreams.live) c.stream_of-stream.result c.close.new.rooms c.stream_of-stream.ensures
-    (but_one c.stream_of-stream.result c.close.new.rooms
-    (subst NoneDone (sym (c.in_ok-close-in-Complete.ensures.kept ∙ ap (λ (u : State). closed_at c.args.k (record middle { upstreams = u })) c.mark_whole.ensures))
-    (whole_goes c.args.k middle (answered_none c.args.rooms.now middle c.args.k taken.answer taken.offers (c.rooms.view_is ∙ taken.is) c.requires.rest.none_done))))
+pub returns-in_ok-finish-in-Complete-clause-none_cut : goal.returns-in_ok-finish-in-Complete-clause-none_cut
+returns-in_ok-finish-in-Complete-clause-none_cut c =
+    subst (λ (o : offering.State). NoneCut o) (sym (finished_offers c.args.k Finished c.take_end.new.rooms c.finish.new.rooms c.in_ok-finish-in-Complete.ensures.kept))
+    (end_none_cut c.args.rooms.now c.args.k c.in_ok-take_end.field-0 c.take_end.new.rooms c.requires.rest.none_cut c.in_ok-take_end.ensures)
 
+pub returns-in_ok-finish-in-Complete-clause-none_but : goal.returns-in_ok-finish-in-Complete-clause-none_but
+returns-in_ok-finish-in-Complete-clause-none_but c =
+    if_any (find number_of c.args.k c.args.rooms.now.upstreams.live) c.finish.new.rooms
+    (end_finished_none c.args.rooms.now c.args.k c.take_end.new.rooms c.finish.new.rooms c.requires.rest.none_done (subst (λ (h : Ended). IsEndTaken c.args.rooms.now c.args.k h c.take_end.new.rooms) c.in-Complete.is c.in_ok-take_end.ensures) c.in_ok-finish-in-Complete.ensures.kept)
+
+pub returns-in_ok-finish-in-Complete-clause-numbered : goal.returns-in_ok-finish-in-Complete-clause-numbered
+returns-in_ok-finish-in-Complete-clause-numbered c id there =
+    c.requires.numbered id (sym (ap (λ (i : Inbound). has i.rows id) (finished_inbound c.args.k Finished c.take_end.new.rooms c.finish.new.rooms c.in_ok-finish-in-Complete.ensures.kept ∙ ap (λ (v : View). v.inbound) c.in_ok-take_end.ensures.is)) ∙ there)
+
+-- it is cut short
 pub returns-in-Short-clause-brings : goal.returns-in-Short-clause-brings
 returns-in-Short-clause-brings c =
     let r = c.requires.reached in
-    let few : c.stream_of-stream.result < 2147483648 = stream_numbered c.args.rooms.now c.requires.rest r.0 r.1.0 r.1.1 r.1.2 c.args.k c.stream_of-stream.result c.requires.opened c.stream_of-stream.ensures c.requires.numbered in
+    let it = found_for c.args.k c.in-Some.stream c.args.rooms.now.upstreams.live c.served_by.result c.requires.opened c.served_by.ensures c.in-Some.is in
+    let few : c.in-Some.stream < 2147483648 = stream_numbered c.args.rooms.now c.requires.rest r.0 r.1.0 r.1.1 r.1.2 c.args.k c.in-Some.stream it c.requires.numbered in
     if_ok c.abandon.result
-    (λ back given setup.
-    cut_short c.args.rooms.now c.requires.rest c.args.k c.args.out.now setup c.stream_of-stream.result c.take_end.new.rooms c.abandon.new.rooms c.abandon.new.out back
-    (subst (λ (h : Ended). IsEndTaken c.args.rooms.now c.args.k h c.take_end.new.rooms) c.in-Short.is c.in_ok-take_end.ensures)
-    c.stream_of-stream.ensures few given)
+    (λ back given setup. cut_short c.args.rooms.now c.requires.rest c.args.k c.args.out.now setup c.in-Some.stream it c.take_end.new.rooms c.abandon.new.rooms c.abandon.new.out back (subst (λ (h : Ended). IsEndTaken c.args.rooms.now c.args.k h c.take_end.new.rooms) c.in-Short.is c.in_ok-take_end.ensures) few given)
     c.abandon.ensures.given
 
 pub returns-in-Short-clause-none_cut : goal.returns-in-Short-clause-none_cut
 returns-in-Short-clause-none_cut c =
     if_then c.abandon.result
     (λ back given.
-    abandoned_none_cut c.args.k c.stream_of-stream.result c.take_end.new.rooms c.abandon.new.rooms c.args.out.now c.abandon.new.out back
+    abandoned_none_cut c.args.k c.in-Some.stream c.take_end.new.rooms c.abandon.new.rooms c.args.out.now c.abandon.new.out back
     (end_none_cut c.args.rooms.now c.args.k c.in_ok-take_end.field-0 c.take_end.new.rooms c.requires.rest.none_cut c.in_ok-take_end.ensures) given)
     c.abandon.ensures.given
 
@@ -82,24 +104,24 @@ pub returns-in-Short-clause-numbered : goal.returns-in-Short-clause-numbered
 returns-in-Short-clause-numbered c =
     if_then c.abandon.result
     (λ back given.
-    abandoned_numbered c.args.k c.stream_of-stream.result c.take_end.new.rooms c.abandon.new.rooms c.args.out.now c.abandon.new.out back
+    abandoned_numbered c.args.k c.in-Some.stream c.take_end.new.rooms c.abandon.new.rooms c.args.out.now c.abandon.new.out back
     (λ id there. c.requires.numbered id (sym (ap (λ (v : View). has v.inbound.rows id) c.in_ok-take_end.ensures.is) ∙ there)) given)
     c.abandon.ensures.given
 
 pub returns-in-Short-clause-none_but : goal.returns-in-Short-clause-none_but
 returns-in-Short-clause-none_but c =
+    let it = found_for c.args.k c.in-Some.stream c.args.rooms.now.upstreams.live c.served_by.result c.requires.opened c.served_by.ensures c.in-Some.is in
     let taken = c.in_ok-take_end.ensures in
     if_then c.abandon.result
     (λ back given.
-    if_stream (find number_of c.args.k c.args.rooms.now.upstreams.live) c.stream_of-stream.result c.abandon.new.rooms c.stream_of-stream.ensures
-    (abandoned_none_but c.args.k c.stream_of-stream.result c.take_end.new.rooms c.abandon.new.rooms c.args.out.now c.abandon.new.out back (answered_none c.args.rooms.now c.take_end.new.rooms c.args.k taken.answer taken.offers taken.is c.requires.rest.none_done) given))
+    if_stream (find number_of c.args.k c.args.rooms.now.upstreams.live) c.in-Some.stream c.abandon.new.rooms (if_found c.args.k c.in-Some.stream c.args.rooms.now.upstreams.live it)
+    (abandoned_none_but c.args.k c.in-Some.stream c.take_end.new.rooms c.abandon.new.rooms c.args.out.now c.abandon.new.out back
+    (answered_none c.args.rooms.now c.take_end.new.rooms c.args.k (fresh false Streaming) taken.offers taken.is c.requires.rest.none_done) given))
     c.abandon.ensures.given
 
 pub returns-in-Short-clause-over : goal.returns-in-Short-clause-over
 returns-in-Short-clause-over c =
+    let it = found_for c.args.k c.in-Some.stream c.args.rooms.now.upstreams.live c.served_by.result c.requires.opened c.served_by.ensures c.in-Some.is in
     on_over c.abandon.result
-    (λ is setup.
-    cut_short_over c.args.rooms.now c.requires.rest c.args.k c.args.out.now setup c.stream_of-stream.result c.take_end.new.rooms c.abandon.new.out
-    (subst (λ (h : Ended). IsEndTaken c.args.rooms.now c.args.k h c.take_end.new.rooms) c.in-Short.is c.in_ok-take_end.ensures)
-    c.stream_of-stream.ensures is)
+    (λ is setup. cut_short_over c.args.rooms.now c.requires.rest c.args.k c.args.out.now setup c.in-Some.stream it c.take_end.new.rooms c.abandon.new.out (subst (λ (h : Ended). IsEndTaken c.args.rooms.now c.args.k h c.take_end.new.rooms) c.in-Short.is c.in_ok-take_end.ensures) is)
     c.abandon.ensures.over

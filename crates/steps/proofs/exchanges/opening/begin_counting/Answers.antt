@@ -10,7 +10,7 @@ use Rattle.steps.proofs.exchanges.opening.begin_counting.Goals as goal
 pub put-requires : goal.put-requires
 put-requires c =
     let above : is_above_all c.args.stream c.rooms.inside.marks ≡ true = ap (λ (v : View). is_above_all c.args.stream v.marks) c.rooms.view_is ∙ c.requires (ap passing_in c.in-Streaming.is) in
-    let found : find c.args.stream c.open.new.self ≡ Some (opened c.args.stream c.args.k) =
-    ap (find c.args.stream) c.in_ok-open-in-Streaming.ensures.opened ∙ joined_own (opened c.args.stream c.args.k) c.rooms.inside.marks (none_above c.args.stream c.rooms.inside.marks above) in
+    let found : find c.args.stream c.open.new.self ≡ Some (opened c.args.stream c.args.k 0 0) =
+    ap (find c.args.stream) c.in_ok-open-in-Streaming.ensures.opened ∙ joined_own (opened c.args.stream c.args.k 0 0) c.rooms.inside.marks (none_above c.args.stream c.rooms.inside.marks above) in
     let fits = c.ranges.count.fits in
     subst (λ (o : Option Side). IfSome o (λ side. side.out + c.args.count < 2 ^ 64)) (sym found) (omega (arith, fits))

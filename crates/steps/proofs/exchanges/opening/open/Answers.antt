@@ -1,15 +1,16 @@
-use Rattle.std.proofs.Common.{◌≡◌, ℕ, true, ◌<◌, List, length, codes, refl, sym, ◌∙◌, ap, subst}
+use Rattle.std.proofs.Common.{◌≡◌, ℕ, true, false, ◌<◌, List, length, codes, refl, sym, ◌∙◌, ap, subst}
 use Rattle.std.proofs.lemmas.Result.{on_ok_weaker}
 use Rattle.model.specs.Causes.{is_front_of}
 use Rattle.model.specs.StreamStates.{most_streams}
 use Rattle.upstreams.specs.Requests.{due_for, stage_of}
 use Rattle.answers.specs.Waiting.{passing_in}
-use Rattle.marks_kept.specs.Sides.{Side, is_above_all}
+use Rattle.marks_kept.specs.Sides.{Side, is_above_all, is_past}
 use Rattle.relay.specs.View.{View, square}
 use Rattle.relay.specs.Rest.{told_view}
 use Rattle.relay.specs.Bringing.{PerformsOwn}
 use Rattle.steps.specs.Closings.{NoneDoneBut}
 use Rattle.steps.specs.exchanges.Opening.{with_side}
+use Rattle.steps.proofs.exchanges.Newest.{past_opened}
 use Rattle.steps.proofs.exchanges.Opens.{above, room_for_one, stream_served, opens_but, calls_perform}
 use Rattle.steps.proofs.exchanges.opening.open.Goals as goal
 
@@ -49,5 +50,14 @@ returns-clause-none_but c =
     (λ puts id.
     subst (λ (v : View). NoneDoneBut id c.args.rooms.now → NoneDoneBut id v) (sym c.in_ok-begin_counting.ensures)
     (subst (λ (v : View). NoneDoneBut id v → NoneDoneBut id (record old { upstreams = c.put.new.self; marks = sides })) c.rooms.view_is
-    (opens_but old c.args.request.stream c.in_ok-k.k (length c.as_slice-2.result.now) c.asks_for_head-to_head.result c.args.passing (stage_of c.args.request.rest) c.open.new.self c.put.new.self sides served c.in_ok-k.ensures.opened c.put.ensures id)))
+    (opens_but old c.args.request.stream c.args.request.route c.in_ok-k.k (length c.as_slice-2.result.now) c.asks_for_head-to_head.result c.args.passing (stage_of c.args.request.rest) c.open.new.self c.put.new.self sides served c.in_ok-k.ensures.opened c.put.ensures id)))
+    c.send_up.ensures
+
+pub returns-clause-newest : goal.returns-clause-newest
+returns-clause-newest c =
+    on_ok_weaker c.send_up.result
+    (λ puts was.
+    subst (λ (v : View). is_past c.args.rooms.now.inbound.last v.marks ≡ false) (sym c.in_ok-begin_counting.ensures)
+    (past_opened (passing_in c.args.passing) c.args.rooms.now.inbound.last c.args.request.stream c.in_ok-k.k (length c.as_slice-2.result.now) c.rooms.inside.marks
+    (subst (λ (v : View). is_past c.args.rooms.now.inbound.last v.marks ≡ false) (sym c.rooms.view_is) was)))
     c.send_up.ensures

@@ -1,16 +1,18 @@
-use Rattle.std.proofs.Common.{rules, ◌≡◌, ◌+◌, ◌<◌, ◌^◌, ℕ, List, Option, sym, ap, subst}
+use Rattle.std.proofs.Common.{rules, ◌≡◌, false, ◌∙◌, ◌+◌, ◌<◌, ◌^◌, ℕ, List, Option, sym, ap, subst}
 use Rattle.std.proofs.lemmas.Result.{on_ok_weaker}
 use Rattle.std.specs.Prelude.{is_some, IfSome, OnOk}
 use Rattle.model.specs.Logs.Act.{ToUp}
 use Rattle.model.specs.Logs.Output.{Does}
 use Rattle.model.specs.Tapes.{put}
 use Rattle.marks_kept.specs.Sides.{find as find_side}
-use Rattle.serving.specs.State.{find}
+use Rattle.marks_kept.specs.Sides.{Side, is_past}
+use Rattle.serving.specs.Lines.{find}
 use Rattle.serving.specs.State.Due.{ToSend}
 use Rattle.upstreams.specs.Connections.{Connection, number_of, HasRoom}
 use Rattle.relay.specs.View.{View, square}
 use Rattle.relay.specs.Bringing.{PerformsOwn}
 use Rattle.steps.specs.Closings.{NoneDoneBut}
+use Rattle.steps.proofs.exchanges.Newest.{past_put}
 use Rattle.steps.proofs.exchanges.Sends.{open_there, side_room, stream_is, calls_send, sends_but}
 use Rattle.steps.proofs.exchanges.opening.send.Goals as goal
 
@@ -48,3 +50,12 @@ returns-clause-none_but c =
     (sends_but old c.args.number c.stream_of-stream.result c.len-count.result c.args.text.items c.put.new.self c.put-2.new.self c.args.out.now c.send_up.new.self
     (subst (λ (v : View). IfSome (find number_of c.args.number v.upstreams.live) (λ x. c.stream_of-stream.result ≡ x.live.stream)) (sym c.rooms.view_is) c.stream_of-stream.ensures) (search rules) c.put.ensures c.put-2.ensures puts id))
     (subst (λ (t : List ℕ). OnOk c.send_up.result (c.send_up.new.self ≡ put c.args.out.now (Does (ToUp c.args.number t)))) c.from_octets.ensures c.send_up.ensures)
+
+pub returns-clause-newest : goal.returns-clause-newest
+returns-clause-newest c =
+    on_ok_weaker c.send_up.result
+    (λ puts was.
+    subst (λ (ms : List Side). is_past c.args.rooms.now.inbound.last ms ≡ false) (sym c.put-2.ensures)
+    (past_put c.args.rooms.now.inbound.last c.stream_of-stream.result c.len-count.result c.rooms.inside.marks
+    ∙ subst (λ (v : View). is_past c.args.rooms.now.inbound.last v.marks ≡ false) (sym c.rooms.view_is) was))
+    c.send_up.ensures

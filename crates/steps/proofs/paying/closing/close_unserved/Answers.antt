@@ -1,14 +1,15 @@
-use Rattle.std.proofs.Common.{◌≡◌, ℕ, ◌<◌, false, List, length, map, Option, Some, None, refl, sym, ◌∙◌, ap, subst}
+use Rattle.std.proofs.Common.{◌≡◌, ℕ, suc, ◌<◌, false, List, length, map, Option, Some, None, refl, sym, ◌∙◌, ap, subst}
 use Rattle.std.specs.Prelude.{option_map}
 use Rattle.model.specs.Logs.{Output}
 use Rattle.model.specs.Logs.Output.{Does}
 use Rattle.model.specs.Logs.Act.{Close}
 use Rattle.model.specs.Tapes.{put}
-use Rattle.serving.specs.State.{find, without, drop_from}
+use Rattle.serving.specs.Lines.{find, without}
+use Rattle.serving.specs.State.{drop_from}
 use Rattle.judgement.specs.Inbound.{Inbound}
 use Rattle.streams_kept.specs.Sending.{is_served}
 use Rattle.upstreams.specs.Kept.{State}
-use Rattle.upstreams.specs.Connections.{Connection, number_of, stream_of}
+use Rattle.upstreams.specs.Connections.{Connection, number_of, works_for}
 use Rattle.relay.specs.View.{View}
 use Rattle.relay.specs.Rest.{told_view, back_of}
 use Rattle.relay.specs.Bringing.{PerformsOwn}
@@ -31,18 +32,18 @@ loop-k-init c = record { performs = λ setup back. own_none setup c.args.rooms.n
 -- where a number is found, a connection of the stream is
 record IsNewest (id : ℕ) (cs : List Connection) (k : ℕ) : Type 0 where
   pub connection : Connection
-  pub found : find stream_of id cs ≡ Some connection
+  pub found : find works_for (suc id) cs ≡ Some connection
   pub number : connection.live.k ≡ k
 
-newest : (id : ℕ) (cs : List Connection) (k : ℕ) → option_map number_of (find stream_of id cs) ≡ Some k → IsNewest id cs k
-newest id cs k is = by (find stream_of id cs) refl is
+newest : (id : ℕ) (cs : List Connection) (k : ℕ) → option_map number_of (find works_for (suc id) cs) ≡ Some k → IsNewest id cs k
+newest id cs k is = by (find works_for (suc id) cs) refl is
   where
-    by : (o : Option Connection) → find stream_of id cs ≡ o → option_map number_of o ≡ Some k → IsNewest id cs k
+    by : (o : Option Connection) → find works_for (suc id) cs ≡ o → option_map number_of o ≡ Some k → IsNewest id cs k
     by None found none = let clash : ◌≡◌ {A = Option ℕ} None (Some k) = none in cc
     by (Some c) found some = let same : c.live.k ≡ k = cc in record { connection = c; found = found; number = same }
 
-absent : (id : ℕ) (cs : List Connection) → option_map number_of (find stream_of id cs) ≡ None → find stream_of id cs ≡ None
-absent id cs is = by (find stream_of id cs) is
+absent : (id : ℕ) (cs : List Connection) → option_map number_of (find works_for (suc id) cs) ≡ None → find works_for (suc id) cs ≡ None
+absent id cs is = by (find works_for (suc id) cs) is
   where
     by : (o : Option Connection) → option_map number_of o ≡ None → o ≡ None
     by None none = refl

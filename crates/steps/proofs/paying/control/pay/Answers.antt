@@ -1,10 +1,9 @@
-use Rattle.std.proofs.Common.{◌≡◌, ◌+◌, true, false, nat_lt, List, length, sym, ◌∙◌, ap, subst}
+use Rattle.std.proofs.Common.{◌≡◌, ◌+◌, false, nat_lt, List, length, sym, ◌∙◌, ap, subst}
 use Rattle.model.specs.Admission.{most_untaken}
 use Rattle.model.specs.Frames.{spell}
 use Rattle.model.specs.Logs.{Output}
 use Rattle.relay.specs.View.{View}
 use Rattle.relay.specs.Bringing.{PerformsOwn}
-use Rattle.steps.specs.Stopping.{IsCalmed}
 use Rattle.steps.specs.paying.Controls.{frame_of}
 use Rattle.steps.proofs.paying.Paying.{pays_control}
 use Rattle.steps.proofs.paying.control.pay.Goals as goal

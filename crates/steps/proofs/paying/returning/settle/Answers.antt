@@ -7,7 +7,7 @@ use Rattle.model.specs.Logs.Output.{ToClient}
 use Rattle.model.specs.Setup.{Setup}
 use Rattle.model.specs.Tapes.{put}
 use Rattle.conduct.specs.Rows.{Row, find}
-use Rattle.marks_kept.specs.Sides.{change, waiting, has_untaken}
+use Rattle.marks_kept.specs.Sides.{change, waiting, has_untaken, is_past}
 use Rattle.outputs.specs.Sent.{window_update}
 use Rattle.streams_kept.specs.Asked.{has, is_active}
 use Rattle.streams_kept.specs.Sending.{AreReturnable}
@@ -52,8 +52,11 @@ returns-then-octets-eq0-clause-performs c =
     performs.0 performs.1 c.return_dropped.new.out (performs.2 setup) (stays.goes_on c.requires.goes_on)) c.return_dropped.ensures.performs c.return_dropped.ensures.stays
 
 -- they wait
-pub wait-requires : goal.wait-requires
-wait-requires c = let not_none = c.if-octets-eq0.false in omega (arith, not_none)
+pub wait-requires-clause-some : goal.wait-requires-clause-some
+wait-requires-clause-some c = let not_none = c.if-octets-eq0.false in omega (arith, not_none)
+
+pub wait-requires-clause-newest : goal.wait-requires-clause-newest
+wait-requires-clause-newest c = let not_none = c.if-octets-eq0.false in c.requires.newest (omega (arith, not_none))
 
 pub return_dropped-requires-then-has_untaken : goal.return_dropped-requires-then-has_untaken
 return_dropped-requires-then-has_untaken c =
@@ -116,9 +119,10 @@ returns-in_ok-give_back_on-clause-performs c = λ setup.
     let not_none = c.if-octets-eq0.false in let some : 0 < c.args.octets = omega (arith, not_none) in
     let has_row = and_parts (has c.args.rooms.now.inbound.rows c.args.stream) _ (goes c.args.rooms.now.inbound.rows c.args.stream here) in
     let sum : all ≡ c.args.octets + c.args.dropped = omega (arith, c.in_ok-all.ensures.0, c.in-Some.ensures) in
+    let newest : is_past c.args.rooms.now.inbound.last c.args.rooms.now.marks ≡ false = subst (λ n. is_past n c.args.rooms.now.marks ≡ false) c.requires.last (c.requires.newest (omega (arith, not_none))) in
     let none : has_untaken c.args.rooms.now.inbound.last c.args.rooms.now.marks ≡ false = subst (λ n. has_untaken n c.args.rooms.now.marks ≡ false) c.requires.last (sym (c.has_untaken.ensures ∙ ap (λ (v : View). has_untaken c.args.stream v.marks) c.rooms.view_is) ∙ c.if-has_untaken.false) in
     let still_free : nat_lt most_untaken (given_on_connection c.args.rooms.now all).untaken ≡ false = ap (λ (v : View). nat_lt most_untaken v.untaken) (sym given) ∙ c.in_ok-give_back_on.ensures.few in
-    let performs = back_on_both setup c.args.rooms.now c.args.octets c.args.dropped all some sum c.in_ok-all.ensures.1 c.requires.goes_on c.in_ok-give_back.ensures.few none c.args.out.now c.args.stream c.requires.last here (c.requires.numbered c.args.stream has_row.0) still_free in
+    let performs = back_on_both setup c.args.rooms.now c.args.octets c.args.dropped all some sum c.in_ok-all.ensures.1 c.requires.goes_on c.in_ok-give_back.ensures.few newest none c.args.out.now c.args.stream c.requires.last here (c.requires.numbered c.args.stream has_row.0) still_free in
     let views : c.give_back_on.new.rooms ≡ given_on_stream (given_on_connection c.args.rooms.now all) c.args.stream c.args.octets = second ∙ ap (λ (v : View). given_on_stream v c.args.stream c.args.octets) given in
     let outs : c.give_back_on.new.out ≡ put (put c.args.out.now (ToClient (spell (window_update 0 all)))) (ToClient (spell (window_update c.args.stream c.args.octets))) = out_second ∙ ap (λ (os : List Output). put os (ToClient (spell (window_update c.args.stream c.args.octets)))) out_first in
     subst (λ (v : View). PerformsOwn setup c.args.rooms.now (fresh c.args.octets c.args.dropped) c.args.out.now v square c.give_back_on.new.out) (sym views)
@@ -142,10 +146,11 @@ returns-else-goes_back_on-clause-performs c = λ setup.
     let here : goes_back_on c.args.rooms.now.inbound.rows c.args.rooms.now.inbound.last ≡ false = ap (goes_back_on c.args.rooms.now.inbound.rows) (sym c.requires.last) ∙ ap (λ (v : View). goes_back_on v.inbound.rows c.args.stream) (sym given) ∙ over in
     let not_none = c.if-octets-eq0.false in let some : 0 < c.args.octets = omega (arith, not_none) in
     let sum : all ≡ c.args.octets + c.args.dropped = omega (arith, c.in_ok-all.ensures.0, c.in-Some.ensures) in
+    let newest : is_past c.args.rooms.now.inbound.last c.args.rooms.now.marks ≡ false = subst (λ n. is_past n c.args.rooms.now.marks ≡ false) c.requires.last (c.requires.newest (omega (arith, not_none))) in
     let none : has_untaken c.args.rooms.now.inbound.last c.args.rooms.now.marks ≡ false = subst (λ n. has_untaken n c.args.rooms.now.marks ≡ false) c.requires.last (sym (c.has_untaken.ensures ∙ ap (λ (v : View). has_untaken c.args.stream v.marks) c.rooms.view_is) ∙ c.if-has_untaken.false) in
     subst (λ (v : View). PerformsOwn setup c.args.rooms.now (fresh c.args.octets c.args.dropped) c.args.out.now v square c.give_back.new.out) (sym given)
     (subst (λ (os : List Output). PerformsOwn setup c.args.rooms.now (fresh c.args.octets c.args.dropped) c.args.out.now (given_on_connection c.args.rooms.now all) square os) (sym out_first)
-    (back_on_connection setup c.args.rooms.now c.args.octets c.args.dropped all some sum c.in_ok-all.ensures.1 c.requires.goes_on c.in_ok-give_back.ensures.few none c.args.out.now here))
+    (back_on_connection setup c.args.rooms.now c.args.octets c.args.dropped all some sum c.in_ok-all.ensures.1 c.requires.goes_on c.in_ok-give_back.ensures.few newest none c.args.out.now here))
 
 pub returns-else-goes_back_on-clause-stays : goal.returns-else-goes_back_on-clause-stays
 returns-else-goes_back_on-clause-stays c = subst (λ (v : View). IsReturned c.args.rooms.now v) (sym c.in_ok-give_back.ensures.given) (returned_on_connection c.args.rooms.now c.in_ok-all.all)
@@ -170,9 +175,10 @@ returns-then-has_untaken-clause-over c =
 pub returns-in_err-give_back-clause-over : goal.returns-in_err-give_back-clause-over
 returns-in_err-give_back-clause-over c =
     let not_none = c.if-octets-eq0.false in
+    let newest : is_past c.args.rooms.now.inbound.last c.args.rooms.now.marks ≡ false = subst (λ n. is_past n c.args.rooms.now.marks ≡ false) c.requires.last (c.requires.newest (omega (arith, not_none))) in
     let none : has_untaken c.args.rooms.now.inbound.last c.args.rooms.now.marks ≡ false = subst (λ n. has_untaken n c.args.rooms.now.marks ≡ false) c.requires.last (sym (c.has_untaken.ensures ∙ ap (λ (v : View). has_untaken c.args.stream v.marks) c.rooms.view_is) ∙ c.if-has_untaken.false) in
     stopped c.from_residual-in_err-give_back.result c.in_err-give_back.field-0.0 c.from_residual-in_err-give_back.ensures.1
-    (λ is setup. fresh_ends setup c.args.rooms.now c.args.octets c.args.dropped c.args.out.now c.give_back.new.out (omega (arith, not_none)) none is) c.in_err-give_back.ensures.over
+    (λ is setup. fresh_ends setup c.args.rooms.now c.args.octets c.args.dropped c.args.out.now c.give_back.new.out (omega (arith, not_none)) newest none is) c.in_err-give_back.ensures.over
 
 pub returns-in_err-give_back_on-clause-over : goal.returns-in_err-give_back_on-clause-over
 returns-in_err-give_back_on-clause-over c =
@@ -182,9 +188,10 @@ returns-in_err-give_back_on-clause-over c =
     let here : goes_back_on c.args.rooms.now.inbound.rows c.args.rooms.now.inbound.last ≡ true = ap (goes_back_on c.args.rooms.now.inbound.rows) (sym c.requires.last) ∙ ap (λ (v : View). goes_back_on v.inbound.rows c.args.stream) (sym given) ∙ on in
     let not_none = c.if-octets-eq0.false in let some : 0 < c.args.octets = omega (arith, not_none) in
     let sum : all ≡ c.args.octets + c.args.dropped = omega (arith, c.in_ok-all.ensures.0, c.in-Some.ensures) in
+    let newest : is_past c.args.rooms.now.inbound.last c.args.rooms.now.marks ≡ false = subst (λ n. is_past n c.args.rooms.now.marks ≡ false) c.requires.last (c.requires.newest (omega (arith, not_none))) in
     let none : has_untaken c.args.rooms.now.inbound.last c.args.rooms.now.marks ≡ false = subst (λ n. has_untaken n c.args.rooms.now.marks ≡ false) c.requires.last (sym (c.has_untaken.ensures ∙ ap (λ (v : View). has_untaken c.args.stream v.marks) c.rooms.view_is) ∙ c.if-has_untaken.false) in
     stopped c.from_residual-in_err-give_back_on.result c.in_err-give_back_on.field-0.0 c.from_residual-in_err-give_back_on.ensures.1
     (λ is setup.
-    own_ends setup c.args.rooms.now c.args.octets c.args.dropped all some sum c.in_ok-all.ensures.1 c.requires.goes_on c.in_ok-give_back.ensures.few none c.args.out.now here c.give_back_on.new.out
+    own_ends setup c.args.rooms.now c.args.octets c.args.dropped all some sum c.in_ok-all.ensures.1 c.requires.goes_on c.in_ok-give_back.ensures.few newest none c.args.out.now here c.give_back_on.new.out
     (subst (λ (v : View). IsCalmed v (put c.args.out.now (ToClient (spell (window_update 0 all)))) c.give_back_on.new.out) given
     (subst (λ (os : List Output). IsCalmed c.give_back.new.rooms os c.give_back_on.new.out) c.in_ok-give_back.ensures.put_out is))) c.in_err-give_back_on.ensures.over

@@ -1,29 +1,65 @@
-use Rattle.std.proofs.Common.{◌+◌, ◌≤◌, List, sym, ◌∙◌, ap, subst}
+use Rattle.std.proofs.Common.{◌≡◌, ℕ, List, map, sym, ◌∙◌, ap, subst}
 use Rattle.std.specs.Prelude.{IfSome}
 use Rattle.model.specs.Logs.Event.{UpTook}
 use Rattle.model.specs.Tapes.Entry.{Happened}
+use Rattle.receiving.specs.Marks.{released}
+use Rattle.serving.specs.Lines.{find}
 use Rattle.upstreams.specs.Kept.{State}
-use Rattle.marks_kept.specs.Sides.{Side, find, change, taking}
+use Rattle.upstreams.specs.Connections.{number_of, taken_at}
+use Rattle.marks_kept.specs.Sides.{Side, MayTake, queue_of, released_behind, taken_of_all}
+use Rattle.marks_kept.specs.Sides.{find as find_side}
 use Rattle.relay.specs.View.{View, square}
 use Rattle.relay.specs.Bringing.{Brings}
 use Rattle.steps.specs.paying.Returning.{back_on}
-use Rattle.steps.specs.paying.Taking.{with_taken, released_for}
-use Rattle.steps.proofs.paying.Noting.{took_of_stream, marks_have}
+use Rattle.steps.specs.paying.Taking.{MayBeTaken, took_if, took_then, own_released, older_released}
+use Rattle.steps.proofs.paying.Noting.{took_of_stream, marks_have, took_after}
 use Rattle.steps.proofs.paying.taking.note_up_took.Goals as goal
+
+-- so many are taken by now
+taken_now : (old : View) (k count taken : ℕ) (u : State) → u ≡ record old.upstreams { live = map (taken_at k count) old.upstreams.live } → taken ≡ took_if (find number_of k u.live) → MayBeTaken old.upstreams.live k count → taken ≡ took_then k count old
+taken_now old k count taken u kept is may = is ∙ ap (λ (x : State). took_if (find number_of k x.live)) kept ∙ took_after k count old.upstreams.live may.connection may.found
 
 pub take-requires-2 : goal.take-requires-2
 take-requires-2 c =
     let r = c.requires.reached in
-    subst (λ (v : View). IfSome (find c.args.stream v.marks) (λ side. side.took + c.args.count ≤ side.out)) (sym c.rooms.view_is)
-    (marks_have c.args.rooms.now c.args.k c.args.stream c.args.count c.requires.within c.requires.stream r.0 r.1)
+    let upstreams_are = c.take.ensures ∙ ap (λ (v : View). record v.upstreams { live = map (taken_at c.args.k c.args.count) v.upstreams.live }) c.rooms.view_is in
+    let taken_is = taken_now c.args.rooms.now c.args.k c.args.count c.taken_of-taken.result c.take.new.self upstreams_are c.taken_of-taken.ensures c.requires.within in
+    subst (λ n. IfSome (find_side c.args.stream c.rooms.inside.marks) (MayTake n)) (sym taken_is)
+    (subst (λ (v : View). IfSome (find_side c.args.stream v.marks) (MayTake (took_then c.args.k c.args.count c.args.rooms.now))) (sym c.rooms.view_is)
+    (marks_have c.args.rooms.now c.args.k c.args.stream c.args.count c.requires.within c.requires.stream r.0 c.requires.rest r.1))
+
+pub returns-clause-counts : goal.returns-clause-counts
+returns-clause-counts c =
+    let upstreams_are = c.take.ensures ∙ ap (λ (v : View). record v.upstreams { live = map (taken_at c.args.k c.args.count) v.upstreams.live }) c.rooms.view_is in
+    let taken_is = taken_now c.args.rooms.now c.args.k c.args.count c.taken_of-taken.result c.take.new.self upstreams_are c.taken_of-taken.ensures c.requires.within in
+    ap (λ (u : State). record { inbound = c.rooms.inside.inbound; offers = c.rooms.inside.offers; upstreams = u; marks = c.take-2.new.self; encoding = c.rooms.inside.encoder; untaken = c.rooms.inside.untaken }) c.take.ensures
+    ∙ ap (λ (sides : List Side). record { inbound = c.rooms.inside.inbound; offers = c.rooms.inside.offers; upstreams = record c.rooms.inside.upstreams { live = map (taken_at c.args.k c.args.count) c.rooms.inside.upstreams.live }; marks = sides; encoding = c.rooms.inside.encoder; untaken = c.rooms.inside.untaken })
+    (c.take-2.ensures.kept ∙ ap (λ n. taken_of_all c.args.stream c.args.k n c.rooms.inside.marks) taken_is)
+    ∙ ap (λ (v : View). record v { upstreams = record v.upstreams { live = map (taken_at c.args.k c.args.count) v.upstreams.live }; marks = taken_of_all c.args.stream c.args.k (took_then c.args.k c.args.count c.args.rooms.now) v.marks }) c.rooms.view_is
+
+pub returns-clause-own : goal.returns-clause-own
+returns-clause-own c =
+    let upstreams_are = c.take.ensures ∙ ap (λ (v : View). record v.upstreams { live = map (taken_at c.args.k c.args.count) v.upstreams.live }) c.rooms.view_is in
+    let taken_is = taken_now c.args.rooms.now c.args.k c.args.count c.taken_of-taken.result c.take.new.self upstreams_are c.taken_of-taken.ensures c.requires.within in
+    c.take-2.ensures.own
+    ∙ ap (λ n. released n (queue_of c.args.stream c.rooms.inside.marks)) taken_is
+    ∙ ap (λ (v : View). released (took_then c.args.k c.args.count c.args.rooms.now) (queue_of c.args.stream v.marks)) c.rooms.view_is
+
+pub returns-clause-older : goal.returns-clause-older
+returns-clause-older c =
+    let upstreams_are = c.take.ensures ∙ ap (λ (v : View). record v.upstreams { live = map (taken_at c.args.k c.args.count) v.upstreams.live }) c.rooms.view_is in
+    let taken_is = taken_now c.args.rooms.now c.args.k c.args.count c.taken_of-taken.result c.take.new.self upstreams_are c.taken_of-taken.ensures c.requires.within in
+    c.take-2.ensures.older
+    ∙ ap (λ n. released_behind c.args.k n c.rooms.inside.marks) taken_is
+    ∙ ap (λ (v : View). released_behind c.args.k (took_then c.args.k c.args.count c.args.rooms.now) v.marks) c.rooms.view_is
 
 pub returns-clause-brings : goal.returns-clause-brings
 returns-clause-brings c = λ setup outputs.
-    let view_is =
-    sym (ap (λ (v : View). with_taken c.args.k c.args.stream c.args.count v) c.rooms.view_is)
-    ∙ ap (λ (u : State). record { inbound = c.rooms.inside.inbound; offers = c.rooms.inside.offers; upstreams = u; marks = change c.args.stream (taking c.args.count) c.rooms.inside.marks; encoding = c.rooms.inside.encoder; untaken = c.rooms.inside.untaken }) (sym c.take.ensures)
-    ∙ ap (λ (sides : List Side). record { inbound = c.rooms.inside.inbound; offers = c.rooms.inside.offers; upstreams = c.take.new.self; marks = sides; encoding = c.rooms.inside.encoder; untaken = c.rooms.inside.untaken }) (sym c.take-2.ensures.taken) in
-    let back_is = sym (ap (λ (v : View). released_for c.args.stream c.args.count v) c.rooms.view_is) ∙ sym c.take-2.ensures.released in
-    subst (λ n. Brings setup c.args.rooms.now square outputs (Happened (UpTook c.args.k c.args.count)) (record { inbound = c.rooms.inside.inbound; offers = c.rooms.inside.offers; upstreams = c.take.new.self; marks = c.take-2.new.self; encoding = c.rooms.inside.encoder; untaken = c.rooms.inside.untaken }) (back_on c.args.stream n) outputs) back_is
-    (subst (λ (v : View). Brings setup c.args.rooms.now square outputs (Happened (UpTook c.args.k c.args.count)) v (back_on c.args.stream (released_for c.args.stream c.args.count c.args.rooms.now)) outputs) view_is
-    (took_of_stream c.args.rooms.now c.args.k c.args.stream c.args.count c.requires.within c.requires.stream setup c.requires.rest outputs))
+    let view_is = returns-clause-counts c in
+    let own_is = returns-clause-own c in
+    let older_is = returns-clause-older c in
+    let new : View = record { inbound = c.rooms.inside.inbound; offers = c.rooms.inside.offers; upstreams = c.take.new.self; marks = c.take-2.new.self; encoding = c.rooms.inside.encoder; untaken = c.rooms.inside.untaken } in
+    subst (λ n. Brings setup c.args.rooms.now square outputs (Happened (UpTook c.args.k c.args.count)) new (back_on c.args.stream (record { own = n; older = c.take-2.result.older })) outputs) (sym own_is)
+    (subst (λ n. Brings setup c.args.rooms.now square outputs (Happened (UpTook c.args.k c.args.count)) new (back_on c.args.stream (record { own = own_released c.args.k c.args.stream c.args.count c.args.rooms.now; older = n })) outputs) (sym older_is)
+    (subst (λ (v : View). Brings setup c.args.rooms.now square outputs (Happened (UpTook c.args.k c.args.count)) v (back_on c.args.stream (record { own = own_released c.args.k c.args.stream c.args.count c.args.rooms.now; older = older_released c.args.k c.args.count c.args.rooms.now })) outputs) (sym view_is)
+    (took_of_stream c.args.rooms.now c.args.k c.args.stream c.args.count c.requires.within c.requires.stream setup c.requires.rest outputs)))

@@ -1,0 +1,52 @@
+//! How far the response on a connection is.
+
+ghost use Rattle.std.specs.Prelude.{◌≡◌};
+ghost use Rattle.serving.specs.Lines.{answer_by, is_idle};
+ghost use Rattle.upstreams.specs.Progress.{answer_of, heard_of};
+
+/// How many connections may be idle at once.
+const MOST_IDLE: usize = 8;
+
+/// How far the response on a connection is.
+#[derive(Clone, Copy, Debug, PartialEq, Eq)]
+pub enum Progress {
+    /// It isn't whole.
+    Pending,
+    /// It is, and the connection is idle: it is kept for another request (RFC 9112, section 9.3).
+    Idle,
+    /// It is, and the connection is to be closed (RFC 9112, section 9.6).
+    Done,
+}
+
+/// What was heard of the response on a connection.
+#[derive(Clone, Copy, Debug, PartialEq, Eq)]
+pub enum Verdict {
+    /// It isn't whole.
+    Partly,
+    /// It is, and the connection may be kept behind it (RFC 9112, section 9.3).
+    Keepable,
+    /// It is, and the connection may not be kept.
+    Finished,
+}
+
+impl Progress {
+    /// Whether the connection is idle.
+    pub(crate) fn is_idle(self) -> bool
+        ensures { result ≡ is_idle (answer_of self) }
+    {
+        matches!(self, Progress::Idle)
+    }
+}
+
+impl Verdict {
+    /// How far the response is, where so many other connections are idle: one that may be kept is, where fewer are than eight.
+    pub(crate) fn progress(self, others: usize) -> Progress
+        ensures { answer_of result ≡ answer_by others (heard_of self) }
+    {
+        match self {
+            Verdict::Partly => Progress::Pending,
+            Verdict::Keepable if others < MOST_IDLE => Progress::Idle,
+            Verdict::Keepable | Verdict::Finished => Progress::Done,
+        }
+    }
+}

@@ -10,7 +10,8 @@ use Rattle.command_line.specs.declared.words.WordsFault.TheVariants.{Clap, Missi
 use Rattle.command_line.specs.declared.words.Word.TheVariants as value
 use Rattle.command_line.specs.declared.gateways.GatewayWords.{GatewayWords}
 use Rattle.command_line.specs.declared.replays.ReplayWords.{ReplayWords}
-use Rattle.command_line.specs.Values.{name_of, IsCount}
+use Rattle.std.specs.Prelude.{IsTrue, Some, codes, ◌↔◌}
+use Rattle.command_line.specs.Values.{name_of, IsCount, IsCountWithin}
 use Rattle.command_line.specs.Gateways as gateways
 use Rattle.command_line.specs.Gateways.{gateway_app}
 use Rattle.command_line.specs.Replays as replays
@@ -42,6 +43,9 @@ gateway_means f a ws v p has = (
     listen = has.listen ∙ found_at f a gateway_app ws (name_of value.Listen) p;
     connections = subst (λ o. IsCount o v.connections) (found_at f a gateway_app ws (name_of value.Connections) p) has.connections;
     turns = subst (λ o. IsCount o v.turns) (found_at f a gateway_app ws (name_of value.Turns) p) has.turns;
+    clients = subst (λ o. IsCountWithin gateways.clients_range o v.clients) (found_at f a gateway_app ws (name_of value.Clients) p) has.clients;
+    idle = subst (λ o. IsCountWithin gateways.idle_range o v.idle) (found_at f a gateway_app ws (name_of value.Idle) p) has.idle;
+    is_logged = subst (λ o. IsTrue v.is_logged ↔ (o ≡ Some (codes "true"))) (found_at f a gateway_app ws (name_of value.Log) p) has.is_logged;
   },
 )
 

@@ -1,10 +1,11 @@
 -- The values of a command line, as `clap` finds them.
-use Rattle.std.specs.Prelude.{◌≡◌, ◌<◌, ◌^◌, ℕ, Option, Some, None, codes}
+use Rattle.std.specs.Prelude.{◌≡◌, ◌<◌, ◌≤◌, ◌^◌, ◌⊎◌, ℕ, Option, Some, None, codes}
 use Rattle.std.specs.Str.Parse.{IsNumeral, without_leading_plus, digits_value}
 use Rattle.clap.specs.Words.{Rule, Text, new_rule}
-use Rattle.clap.specs.declared.builder.action.ArgAction.TheVariants.{Set}
+use Rattle.clap.specs.declared.builder.action.ArgAction.TheVariants.{Set, SetTrue}
+use Rattle.command_line.specs.declared.values.Range.{Range}
 use Rattle.command_line.specs.declared.words.Word.{Word}
-use Rattle.command_line.specs.declared.words.Word.TheVariants.{Config, Listen, Connections, Turns, Script}
+use Rattle.command_line.specs.declared.words.Word.TheVariants.{Config, Listen, Connections, Turns, Script, Clients, Idle, Log}
 use Rattle.command_line.specs.declared.words.WordsFault.{WordsFault}
 use Rattle.command_line.specs.declared.words.WordsFault.TheVariants.{Missing, NotANumber}
 
@@ -15,10 +16,17 @@ name_of Listen = codes "listen"
 name_of Connections = codes "connections"
 name_of Turns = codes "turns"
 name_of Script = codes "script"
+name_of Clients = codes "clients"
+name_of Idle = codes "idle"
+name_of Log = codes "log"
 
 -- `--name VALUE`, which may be left out and has one value
 abbrev pub option_rule : Word → Rule
 option_rule word = record (new_rule (name_of word)) { long = Some (name_of word); action = Some Set; value_names = 1 }
+
+-- `--name`, which may be left out and has no value
+abbrev pub flag_rule : Word → Rule
+flag_rule word = record (new_rule (name_of word)) { long = Some (name_of word); action = Some SetTrue }
 
 -- a value that stands by itself and may be left out
 abbrev pub value_rule : Word → Rule
@@ -43,3 +51,13 @@ IsNoText found word fault = (fault ≡ Missing word) × (found ≡ None)
 abbrev pub IsNoCount : Option Text → Word → WordsFault → Type 0
 IsNoCount None word fault = fault ≡ Missing word
 IsNoCount (Some text) word fault = (fault ≡ NotANumber word) × ((number : ℕ) → IsNumber text number → ⊥)
+
+-- A value was found that is this number, which is in the range; or none was, and it is the one that stands for that.
+abbrev pub IsCountWithin : Range → Option Text → ℕ → Type 0
+IsCountWithin range None count = count ≡ range.absent
+IsCountWithin range (Some text) count = IsNumber text count × (range.least ≤ count) × (count ≤ range.most)
+
+-- Why there is no number in a range: a value was found that is none.
+abbrev pub IsNoCountWithin : Range → Option Text → Word → WordsFault → Type 0
+IsNoCountWithin range None word fault = ⊥
+IsNoCountWithin range (Some text) word fault = (fault ≡ NotANumber word) × ((number : ℕ) → IsNumber text number → range.least ≤ number → number ≤ range.most → ⊥)

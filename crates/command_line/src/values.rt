@@ -1,13 +1,21 @@
 //! The values that a parse found.
 
-ghost use Rattle.std.specs.Prelude.{false, ◌≡◌, ◌≢◌, ◌⊎◌, IfOk, IfErr, Some, None};
+ghost use Rattle.std.specs.Prelude.{false, ◌≡◌, ◌≢◌, ◌⊎◌, ◌↔◌, IfOk, IfErr, IsTrue, Some, None, codes};
 ghost use Rattle.clap.specs.Words.{found_of, first_value, kind_of, rule_of};
-ghost use Rattle.command_line.specs.Values.{name_of, option_rule, value_rule, IsCount, IsNoText, IsNoCount};
+ghost use Rattle.command_line.specs.Values.{name_of, option_rule, flag_rule, value_rule, IsCount, IsNoText, IsNoCount, IsCountWithin, IsNoCountWithin};
 
 use crate::words::{Word, WordsFault};
 use clap::error::ErrorKind;
 use clap::{Arg, ArgAction, ArgMatches};
 use std::alloc::Global;
+
+/// Which numbers a value may be, and which it is where it is left out.
+#[derive(Clone, Copy)]
+pub struct Range {
+    pub least: u32,
+    pub most: u32,
+    pub absent: u32,
+}
 
 impl Word {
     /// Its name, under which it is found.
@@ -20,6 +28,9 @@ impl Word {
             Word::Connections => "connections",
             Word::Turns => "turns",
             Word::Script => "script",
+            Word::Clients => "clients",
+            Word::Idle => "idle",
+            Word::Log => "log",
         }
     }
 }
@@ -33,6 +44,17 @@ pub fn option<'a>(alloc: Global, word: Word, value: &'static str, help: &'static
         .long(word.name())
         .value_name(value)
         .action(ArgAction::Set)
+        .help(help)
+}
+
+/// `--name`, which may be left out and has no value.
+pub fn flag<'a>(alloc: Global, word: Word, help: &'static str) -> Arg<'a>
+    ensures rule { rule_of result ≡ flag_rule word }
+    ensures local { result.global ≡ false }
+{
+    Arg::new(alloc, word.name())
+        .long(word.name())
+        .action(ArgAction::SetTrue)
         .help(help)
 }
 
@@ -68,6 +90,28 @@ pub fn count_of(matches: &ArgMatches<'_>, word: Word) -> Result<u32, WordsFault>
         Ok(count) => Ok(count),
         Err(_) => Err(WordsFault::NotANumber(word)),
     }
+}
+
+/// The number of a value that is in a range, or another where there is no value.
+pub fn count_within(matches: &ArgMatches<'_>, word: Word, range: &Range) -> Result<u32, WordsFault>
+    ensures ok { IfOk result (λ count. IsCountWithin range.now (first_value (found_of matches.now) (name_of word)) count) }
+    ensures err { IfErr result (λ fault. IsNoCountWithin range.now (first_value (found_of matches.now) (name_of word)) word fault) }
+{
+    if matches.get_str(word.name()).is_none() {
+        return Ok(range.absent);
+    }
+    let count = count_of(matches, word)?;
+    if count < range.least || count > range.most {
+        return Err(WordsFault::NotANumber(word));
+    }
+    Ok(count)
+}
+
+/// Whether a flag stands there.
+pub fn has_flag(matches: &ArgMatches<'_>, word: Word) -> bool
+    ensures { IsTrue result ↔ (first_value (found_of matches.now) (name_of word) ≡ Some (codes "true")) }
+{
+    matches.get_str(word.name()) == Some("true")
 }
 
 /// The fault that an error of a parse is.

@@ -15,6 +15,12 @@ pub enum Word {
     Turns,
     /// `SCRIPT`: where the script stands.
     Script,
+    /// `--clients N`: how many connections are served at once.
+    Clients,
+    /// `--idle SECONDS`: how long a client may neither say nor take anything.
+    Idle,
+    /// `--log`: whether connections are told of.
+    Log,
 }
 
 /// Why a command line is refused.
@@ -24,7 +30,7 @@ pub enum WordsFault {
     Clap(clap::Error),
     /// This value is missing.
     Missing(Word),
-    /// This value is no number from 0 to 4,294,967,295.
+    /// This value is no number from 0 to 4,294,967,295, or, for `--clients`, from 1 to 1,024.
     NotANumber(Word),
     /// An argument isn't UTF-8.
     NotUtf8,

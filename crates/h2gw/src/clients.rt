@@ -4,6 +4,7 @@ ghost use Rattle.std.specs.Prelude.{◌≤◌, IfErr};
 ghost use Rattle.gateway.specs.Setups.{setup_of, IsServable};
 ghost use Rattle.h2gw_parts.specs.Stops.{status_of};
 
+use crate::crowd::serve_crowd;
 use h2gw_parts::setting::Setting;
 use h2gw_parts::stops::Stop;
 use mio::net::TcpStream as Socket;
@@ -12,7 +13,7 @@ use std::io::ErrorKind;
 use std::net::{TcpListener, TcpStream};
 use worlds::{ServeFault, serve};
 
-/// Says where clients connect to, and serves their connections one after another.
+/// Says where clients connect to, and serves their connections, so many at once as the setting says.
 pub fn serve_clients(rt: &HostRuntime, setting: &Setting) -> Result<(), Stop>
     requires { IsServable (setup_of setting.now.config) }
     ensures { IfErr result (λ stop. 2 ≤ status_of stop) }
@@ -24,7 +25,16 @@ pub fn serve_clients(rt: &HostRuntime, setting: &Setting) -> Result<(), Stop>
         return Err(Stop::Bind);
     };
     println!(rt; "listening {address}").map_err(|_| Stop::Print)?;
-    serve_at(rt, setting, &listener)
+    if is_plain(setting) {
+        serve_at(rt, setting, &listener)
+    } else {
+        serve_crowd(rt, setting, listener)
+    }
+}
+
+/// Whether one client is served after another, however long it says nothing, and none is told of.
+fn is_plain(setting: &Setting) -> bool {
+    setting.clients == 1 && setting.idle == 0 && !setting.is_logged
 }
 
 /// Serves the connections of clients at a listener, one after another.

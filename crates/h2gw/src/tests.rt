@@ -3,6 +3,7 @@
 ghost use Rattle.gateway.specs.Setups.{setup_of, IsServable};
 
 use crate::clients::serve_at;
+use crate::crowd::serve_crowd;
 use gateway::{Config, Passing, Policy};
 use h2gw_parts::setting::Setting;
 use std::alloc::Global;
@@ -19,6 +20,9 @@ const REQUEST: &[u8] =
 /// What a client is sent: the gateway's settings, the acknowledgement of its own, and the status 404, since there is no route.
 const ANSWER: &[u8] =
     b"\0\0\x0c\x04\0\0\0\0\0\0\x03\0\0\0\x64\0\x06\0\0\x40\0\0\0\0\x04\x01\0\0\0\0\0\0\x05\x01\x05\0\0\0\x01\x8d\x0f\x0d\x01\x30";
+
+/// The gateway's settings alone.
+const SETTINGS: &[u8] = b"\0\0\x0c\x04\0\0\0\0\0\0\x03\0\0\0\x64\0\x06\0\0\x40\0";
 
 /// A setting without a route, for so many connections of so many turns.
 fn setting_of(alloc: Global, connections: u32, turns: u32) -> Setting
@@ -37,6 +41,9 @@ fn setting_of(alloc: Global, connections: u32, turns: u32) -> Setting
         addresses: Vec::new(alloc),
         connections,
         turns,
+        clients: 1,
+        idle: 0,
+        is_logged: false,
     }
 }
 
@@ -77,4 +84,52 @@ fn clients_are_served_one_after_another(rt: HostRuntime) -> Result<(), Fail> {
 #[test]
 fn what_a_client_is_sent_goes_out_where_its_turns_end(rt: HostRuntime) -> Result<(), Fail> {
     assert_served(&rt, &rt, 1)
+}
+
+/// Clients that come before any is served read their answers, where so many are served at once, each for so many turns.
+fn assert_all_served(
+    rt: &impl Abort,
+    host: &HostRuntime,
+    clients: u32,
+    turns: u32,
+) -> Result<(), Fail> {
+    let mut setting = setting_of(host.alloc(), 5, turns);
+    setting.clients = clients;
+    let listener = TcpListener::bind(host, setting.listen)?;
+    let mut all = Vec::new(host.alloc());
+    for _ in 0..5 {
+        all.push(client_at(host, &listener)?)?;
+    }
+    assert!(rt; serve_crowd(host, &setting, listener).is_ok());
+    for client in &mut all {
+        assert_eq!(rt; read_by(host.alloc(), client)?.as_slice(), ANSWER);
+    }
+    Ok(())
+}
+
+#[test]
+fn clients_are_served_at_once(rt: HostRuntime) -> Result<(), Fail> {
+    assert_all_served(&rt, &rt, 1, 100)?;
+    assert_all_served(&rt, &rt, 2, 100)?;
+    assert_all_served(&rt, &rt, 100, 100)
+}
+
+#[test]
+fn what_clients_are_sent_goes_out_where_their_turns_end(rt: HostRuntime) -> Result<(), Fail> {
+    assert_all_served(&rt, &rt, 2, 1)
+}
+
+#[test]
+fn a_silent_client_keeps_no_other_from_its_turn(rt: HostRuntime) -> Result<(), Fail> {
+    let mut setting = setting_of(rt.alloc(), 2, 100);
+    setting.clients = 2;
+    setting.idle = 1;
+    let listener = TcpListener::bind(&rt, setting.listen)?;
+    let mut silent = TcpStream::connect(&rt, listener.local_addr()?)?;
+    let mut client = client_at(&rt, &listener)?;
+    // The silent one is ended once it was idle for long enough: it reads settings, and then an end.
+    assert!(rt; serve_crowd(&rt, &setting, listener).is_ok());
+    assert_eq!(rt; read_by(rt.alloc(), &mut client)?.as_slice(), ANSWER);
+    assert_eq!(rt; read_by(rt.alloc(), &mut silent)?.as_slice(), SETTINGS);
+    Ok(())
 }

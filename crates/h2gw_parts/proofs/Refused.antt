@@ -55,11 +55,17 @@ refused arguments (words.Missing value.Listen) refuses = tt
 refused arguments (words.Missing value.Connections) refuses = tt
 refused arguments (words.Missing value.Turns) refuses = tt
 refused arguments (words.Missing value.Script) refuses = absurd refuses.1.0
+refused arguments (words.Missing value.Clients) refuses = absurd refuses.1.0
+refused arguments (words.Missing value.Idle) refuses = absurd refuses.1.0
+refused arguments (words.Missing value.Log) refuses = absurd refuses.1.0
 refused arguments (words.NotANumber value.Config) refuses = absurd refuses.1.1
 refused arguments (words.NotANumber value.Listen) refuses = absurd refuses.1.1
 refused arguments (words.NotANumber value.Connections) refuses = tt
 refused arguments (words.NotANumber value.Turns) refuses = tt
 refused arguments (words.NotANumber value.Script) refuses = absurd refuses.1.1
+refused arguments (words.NotANumber value.Clients) refuses = tt
+refused arguments (words.NotANumber value.Idle) refuses = tt
+refused arguments (words.NotANumber value.Log) refuses = absurd refuses.1.1
 refused arguments words.NotUtf8 refuses = absurd refuses
 refused arguments words.Memory refuses = tt
 

@@ -43,15 +43,20 @@ LacksSetting listen stop = ⊥
 abbrev pub LacksWords : List (List ℕ) → Stop → Type 0
 LacksWords arguments stop = (fault : WordsFault) × (stop ≡ stop_of fault) × Refuses arguments fault
 
--- The value is one of the gateway's, which has no script.
+-- The value is one of the gateway's, and needed.
 abbrev pub IsGatewayValue : Word → Type 0
-IsGatewayValue value.Script = ⊥
-IsGatewayValue word = ⊤
+IsGatewayValue value.Config = ⊤
+IsGatewayValue value.Listen = ⊤
+IsGatewayValue value.Connections = ⊤
+IsGatewayValue value.Turns = ⊤
+IsGatewayValue word = ⊥
 
 -- The value has to be a number.
 abbrev pub IsCountValue : Word → Type 0
 IsCountValue value.Connections = ⊤
 IsCountValue value.Turns = ⊤
+IsCountValue value.Clients = ⊤
+IsCountValue value.Idle = ⊤
 IsCountValue word = ⊥
 
 -- Why the command line isn't taken. Which arguments the program has isn't told.

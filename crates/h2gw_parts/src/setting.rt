@@ -34,6 +34,12 @@ pub struct Setting {
     pub connections: u32,
     /// The most turns of a connection.
     pub turns: u32,
+    /// How many connections are served at once, 1 to 1,024.
+    pub clients: u32,
+    /// For how many seconds a client may neither say nor take anything; 0 is for ever.
+    pub idle: u32,
+    /// Connections are told of on standard error.
+    pub is_logged: bool,
 }
 
 /// Reads the command line, and then the configuration that it names. The address is judged before the configuration.
@@ -52,7 +58,7 @@ fn read_setting_of<R: Files + AllocGlobal>(rt: &R, words: &GatewayWords) -> Resu
     ensures servable { IfOk result (λ setting. IsServable (setup_of setting.config)) }
     ensures addresses { IfOk result (λ setting. AreAddresses setting.config.routes.items setting.addresses.items) }
     ensures listen { IfOk result (λ setting. IsSocketText (string_bytes words.now.listen) setting.listen) }
-    ensures counts { IfOk result (λ setting. (setting.connections ≡ words.now.connections) × (setting.turns ≡ words.now.turns)) }
+    ensures counts { IfOk result (λ setting. (setting.connections ≡ words.now.connections) × (setting.turns ≡ words.now.turns) × (setting.clients ≡ words.now.clients) × (setting.idle ≡ words.now.idle) × (setting.is_logged ≡ words.now.is_logged)) }
     ensures stops { IfErr result (λ stop. LacksSetting (string_bytes words.now.listen) stop) }
 {
     let Ok(listen) = words.listen.parse::<SocketAddr>() else {
@@ -77,7 +83,7 @@ fn setting_of(
     ensures servable { IfOk result (λ setting. IsServable (setup_of setting.config)) }
     ensures addresses { IfOk result (λ setting. AreAddresses setting.config.routes.items setting.addresses.items) }
     ensures listens { IfOk result (λ setting. setting.listen ≡ listen) }
-    ensures counts { IfOk result (λ setting. (setting.connections ≡ words.now.connections) × (setting.turns ≡ words.now.turns)) }
+    ensures counts { IfOk result (λ setting. (setting.connections ≡ words.now.connections) × (setting.turns ≡ words.now.turns) × (setting.clients ≡ words.now.clients) × (setting.idle ≡ words.now.idle) × (setting.is_logged ≡ words.now.is_logged)) }
     ensures stops { IfErr result (λ stop. LacksConfig text.now stop) }
 {
     let config = match read_config(alloc, text) {
@@ -91,6 +97,9 @@ fn setting_of(
         addresses,
         connections: words.connections,
         turns: words.turns,
+        clients: words.clients,
+        idle: words.idle,
+        is_logged: words.is_logged,
     })
 }
 

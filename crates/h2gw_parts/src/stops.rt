@@ -87,6 +87,9 @@ fn missing(word: Word) -> &'static str
         Word::Connections => "connections: missing",
         Word::Turns => "turns: missing",
         Word::Script => "script: missing",
+        Word::Clients => "clients: missing",
+        Word::Idle => "idle: missing",
+        Word::Log => "log: missing",
     }
 }
 
@@ -100,6 +103,9 @@ fn not_a_number(word: Word) -> &'static str
         Word::Connections => "connections: not a number",
         Word::Turns => "turns: not a number",
         Word::Script => "script: not a number",
+        Word::Clients => "clients: not a number",
+        Word::Idle => "idle: not a number",
+        Word::Log => "log: not a number",
     }
 }
 

@@ -1,6 +1,9 @@
 //! The words of a command line.
 
-use command_line::{Word, WordsFault, read_arguments, read_gateway_words, read_replay_words};
+use command_line::{
+    GatewayWords, Word, WordsFault, read_arguments, read_gateway_words, read_replay_words,
+};
+use std::alloc::Global;
 use std::env::{Env, FillError};
 use std::test::*;
 
@@ -77,8 +80,60 @@ fn the_gateway_reads_its_words(rt: HostRuntime) -> Result<(), Fail> {
             assert_eq!(rt; values.config.as_str(), "a.toml");
             assert_eq!(rt; values.listen.as_str(), "127.0.0.1:80");
             assert_eq!(rt; (values.connections, values.turns), (0, 4294967295));
+            assert_eq!(rt;
+                (values.clients, values.idle, values.is_logged),
+                (1, 0, false)
+            );
         }
         Err(fault) => panic!(rt; "{fault:?}"),
+    }
+    Ok(())
+}
+
+/// What the gateway reads of this word behind those that it needs.
+fn read_with(alloc: Global, word: &'static str) -> Result<GatewayWords, WordsFault> {
+    let words = [
+        "h2gw",
+        "--config=a",
+        "--listen=b",
+        "--connections=1",
+        "--turns=2",
+        word,
+    ];
+    read_gateway_words(alloc, words.as_slice())
+}
+
+#[test]
+fn the_gateway_reads_how_many_clients_there_are(rt: HostRuntime) -> Result<(), Fail> {
+    let words = [
+        "h2gw",
+        "--config=a",
+        "--log",
+        "--listen=b",
+        "--clients",
+        "1024",
+        "--connections=1",
+        "--idle=30",
+        "--turns=2",
+    ];
+    match read_gateway_words(rt.alloc(), words.as_slice()) {
+        Ok(values) => {
+            assert_eq!(rt;
+                (values.clients, values.idle, values.is_logged),
+                (1024, 30, true)
+            );
+        }
+        Err(fault) => panic!(rt; "{fault:?}"),
+    }
+    for word in ["--clients=0", "--clients=1025", "--clients=x", "--clients="] {
+        match read_with(rt.alloc(), word) {
+            Err(WordsFault::NotANumber(Word::Clients)) => {}
+            _ => panic!(rt; "{word} was taken"),
+        }
+    }
+    match read_with(rt.alloc(), "--idle=-1") {
+        Err(WordsFault::NotANumber(Word::Idle)) => {}
+        _ => panic!(rt; "no number, and taken"),
     }
     Ok(())
 }

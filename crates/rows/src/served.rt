@@ -9,7 +9,7 @@ use std::io;
 use std::io::Write;
 use std::process::Abort;
 use std::test::*;
-use worlds::{Ended, MemoryWorld, Next, Peer, ServeFault, World, WorldFault, serve};
+use worlds::{Ended, MemoryWorld, Next, Peer, ServeFault, Service, World, WorldFault, serve};
 
 /// The preface, settings without entries, and a GET without a body on stream 1.
 const REQUEST: &[u8] =
@@ -133,6 +133,22 @@ fn the_client_is_closed(rt: HostRuntime) -> Result<(), Fail> {
     assert_eq!(rt; ended, Ok(Ended::Closed));
     assert_eq!(rt; world.turn, 3);
     assert_eq!(rt; world.applied, 2);
+    Ok(())
+}
+
+#[test]
+fn services_take_their_turns_beside_others(rt: HostRuntime) -> Result<(), Fail> {
+    let config = no_routes(rt.alloc());
+    let mut stays = Service::new(rt.alloc(), &config)?;
+    let mut goes = Service::new(rt.alloc(), &config)?;
+    let (mut one, mut other) = (leaving_at(9), leaving_at(1));
+    assert_eq!(rt; stays.take_turn(&mut one), Ok(None));
+    assert_eq!(rt; goes.take_turn(&mut other), Ok(None));
+    assert_eq!(rt; goes.take_turn(&mut other), Ok(Some(Ended::Closed)));
+    assert_eq!(rt; stays.take_turn(&mut one), Ok(None));
+    // Behind its end a service answers as it did, and its world isn't asked.
+    assert_eq!(rt; goes.take_turn(&mut other), Ok(Some(Ended::Closed)));
+    assert_eq!(rt; (one.turn, other.turn), (2, 2));
     Ok(())
 }
 

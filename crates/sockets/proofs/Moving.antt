@@ -14,7 +14,8 @@ use Rattle.outputs.specs.declared.events.Event.TheVariants.{Client, ClientEnd, C
 use Rattle.worlds.specs.declared.world.WorldFault.{WorldFault}
 use Rattle.sockets.specs.declared.side.Side.{Side}
 use Rattle.sockets.specs.declared.upstream.Upstream.{Upstream}
-use Rattle.sockets.specs.Sides.{News, no_news, lost_news, came_news, end_news, took_news, is_deaf, IsOf, Tells, Goes, GoesTo, GoesOn, GoesFrontTo, SendsFront}
+use Rattle.mio.specs.declared.event.event.Event.{Event as Report}
+use Rattle.sockets.specs.Sides.{News, no_news, lost_news, came_news, end_news, took_news, is_deaf, IsOf, Tells, Goes, GoesTo, GoesOn, GoesFrontTo, SendsFront, noted}
 use Rattle.sockets.specs.Performed.{AreRising, IsNumbered, Opens, Changes, Sends, AllGoOn, OneGoesOn, OneIsDropped, OthersGoOn, GoesBy, MovesOn, client_told, got_news, IsWithin, is_failed}
 use Rattle.sockets.proofs.Passed.{reads_nothing, keeps_reads, reads_after, end_before, passes_still, passes_twice, no_front, appends_nothing}
 use Rattle.sockets.proofs.Performing.{one_fewer, one_changed}
@@ -67,6 +68,10 @@ module _ {S : Type 0} (left held : S → Option (List ℕ)) where
 
   pub goes_still : (side : Side S) → Goes left held no_news side side
   goes_still side = goes_kept side side refl refl refl refl refl (λ is. is)
+
+  -- A report of it was noted.
+  pub goes_noted : (report : Report) (old new : Side S) → new ≡ noted report old → Goes left held no_news old new
+  goes_noted report old new is = subst (λ side. Goes left held no_news old side) (sym is) (goes_kept old (noted report old) refl refl refl refl refl (λ readable. readable))
 
   -- What a call read that failed isn't told.
   pub goes_lost : (old new : Side S) → Goes left held no_news old new → Goes left held lost_news old new

@@ -44,8 +44,8 @@ module _ {S : Type 0} where
       subst (Sends left held octets from) (sym is)
       (record { front = record { number = sends.front.number; address = sends.front.address; front = sends.front.front }; puts_out = sends.puts_out })
 
-  pub new_listed : (k : ℕ) (address : Option SocketAddr) (mid new : Upstream S) → IsNew k address mid → {b d : Bool} → new ≡ record mid { is_queued = b; is_listed = d } → IsNew k address new
-  new_listed k address mid new is same = subst (IsNew k address) (sym same) (record { number = is.number; address_is = is.address_is; begun = is.begun; whole = is.whole })
+  pub new_listed : (number k : ℕ) (address : Option SocketAddr) (mid new : Upstream S) → IsNew number k address mid → {b d : Bool} → new ≡ record mid { is_queued = b; is_listed = d } → IsNew number k address new
+  new_listed number k address mid new is same = subst (IsNew number k address) (sym same) (record { number = is.number; address_is = is.address_is; begun = is.begun; whole = is.whole })
 
   pub front_listed : (left held : S → Option (List ℕ)) (from mid to : Upstream S) (octets : List ℕ) → SendsFront left held octets from mid → to ≡ record mid { is_queued = to.is_queued; is_listed = to.is_listed } → SendsFront left held octets from to
   front_listed left held from mid to octets sends is = subst (SendsFront left held octets from) (sym is) (record { number = sends.number; address = sends.address; front = sends.front })

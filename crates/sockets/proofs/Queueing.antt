@@ -1,6 +1,6 @@
 -- Sockets stand in queues, from call to call.
-use Rattle.std.proofs.Common.{◌≡◌, ◌<◌, ◌≤◌, ◌+◌, ◌++◌, ◌∙◌, ℕ, zero, suc, List, [], ◌∷◌, length, set, get_or, refl, sym, ap, subst, append_assoc, append-nil, arith}
-use Rattle.std.specs.Prelude.{Bool, ◌||◌, ◌&&◌, not, true, false, nat_lt, if◌then◌else◌, Option, None, Some}
+use Rattle.std.proofs.Common.{◌≡◌, ◌<◌, ◌≤◌, ◌+◌, ◌++◌, ◌∙◌, ℕ, zero, suc, List, [], ◌∷◌, length, set, get_or, take, drop, refl, sym, ap, subst, append_assoc, append-nil, arith}
+use Rattle.std.specs.Prelude.{Bool, ◌||◌, ◌&&◌, ◌==◌, not, true, false, nat_lt, if◌then◌else◌, Option, None, Some}
 use Rattle.std.proofs.lemmas.Bool.Decides.{nat_tests}
 use Rattle.std.specs.List.{Contains, insert, remove}
 use Rattle.std.specs.List.Sorted.{IsPartitionPoint}
@@ -8,7 +8,7 @@ use Rattle.std.proofs.lemmas.List.Elements.{Contains-append_left, Contains-push}
 use Rattle.transfers.specs.Transfers.{Way, told}
 use Rattle.sockets.specs.Sides.{may_be_ready, out_of, owes, side_told}
 use Rattle.sockets.specs.Performed.{AreRising, IsOpenNowhere}
-use Rattle.sockets.specs.Queues.{Grows, took_untold, IsMarked, IsListed, AllListed, IsClientListed, AreQueued}
+use Rattle.sockets.specs.Queues.{Grows, took_untold, IsMarked, IsListed, AllListed, IsClientListed, AreQueued, is_client_first, client_last}
 use Rattle.sockets.specs.declared.side.Side.{Side}
 use Rattle.sockets.specs.declared.upstream.Upstream.{Upstream}
 
@@ -39,6 +39,47 @@ stands_at x n a (suc i) other within is = (i, grind (arith, within), is)
 -- Another one was taken from its front.
 pub stands_on : (x n : ℕ) (a : List ℕ) → (x ≡ n → ⊥) → Contains (n ∷ a) x → Contains a x
 stands_on x n a other stands = stands_at x n a stands.0 other stands.1 stands.2
+
+-- What stood in a queue stands in another.
+abbrev pub StandsIn : List ℕ → List ℕ → Type 0
+StandsIn a b = (x : ℕ) → Contains a x → Contains b x
+
+turned_at : (x n : ℕ) (a : List ℕ) (i : ℕ) → i < length (n ∷ a) → get_or (n ∷ a) i x ≡ x → Contains (a ++ n ∷ []) x
+turned_at x n a zero within is = subst (λ m. Contains (a ++ m ∷ []) x) (sym is) (Contains-push a x)
+turned_at x n a (suc i) within is = Contains-append_left a (n ∷ []) x (i, grind (arith, within), is)
+
+stands_turned : (n : ℕ) (a : List ℕ) (is_first : Bool) → StandsIn (n ∷ a) (if is_first then a ++ n ∷ [] else n ∷ a)
+stands_turned n a true x stands = turned_at x n a stands.0 stands.1 stands.2
+stands_turned n a false x stands = stands
+
+-- All that stand there stand there where the client goes behind the others.
+pub stands_last : (a b : List ℕ) → b ≡ client_last a → StandsIn a b
+stands_last [] b is x stands = absurd (let within = stands.1 in omega (arith, within))
+stands_last (n ∷ a) b is x stands = subst (λ xs. Contains xs x) (sym is) (stands_turned n a (n == 0) x stands)
+
+-- The client was the next one, and the one at the front was put behind the others.
+pub turned_last : (a b : List ℕ) → is_client_first a ≡ true → b ≡ drop 1 a ++ take 1 a → b ≡ client_last a
+turned_last [] b first is = absurd (let no : false ≡ true = first in cc)
+turned_last (n ∷ a) b first is = is ∙ ap (λ is_first. if is_first then a ++ n ∷ [] else n ∷ a) (sym first)
+
+-- Another one was the next one, or none was.
+pub kept_last : (a : List ℕ) → is_client_first a ≡ false → a ≡ client_last a
+kept_last [] other = refl
+kept_last (n ∷ a) other = ap (λ is_first. if is_first then a ++ n ∷ [] else n ∷ a) (sym other)
+
+-- There is one where the client is the next one.
+pub some_first : (a : List ℕ) → is_client_first a ≡ true → 1 ≤ length a
+some_first [] first = absurd (let no : false ≡ true = first in cc)
+some_first (n ∷ a) first = omega arith
+
+-- The one at the front is the next one.
+pub first_is : (a : List ℕ) (n : ℕ) → 0 < length a → n ≡ get_or a 0 n → (n == 0) ≡ is_client_first a
+first_is [] n some is = absurd (omega (arith, some))
+first_is (m ∷ a) n some is = ap (λ x. x == 0) is
+
+pub none_first : (a : List ℕ) → (0 < length a → ⊥) → false ≡ is_client_first a
+none_first [] none = refl
+none_first (n ∷ a) none = absurd (none (omega arith))
 
 -- ---- marks
 
@@ -279,6 +320,18 @@ module _ {S : Type 0} where
 
   pub client_still : (r r' : List ℕ) (q : Bool) (c : Side S) → Grows r r' → IsClientListed r q c → IsClientListed r' q c
   client_still r r' q c grows listed = record { queued = λ is. stands_still 0 r r' grows (listed.queued is); may = listed.may }
+
+  listed_in : (r r' w : List ℕ) (u : Upstream S) → StandsIn r r' → IsListed r w u → IsListed r' w u
+  listed_in r r' w u stands listed = record { marked = record { queued = λ is. stands u.k (listed.marked.queued is); listed = listed.marked.listed }; may = listed.may; took = listed.took }
+
+  all_in : (b : ℕ) (r r' w : List ℕ) (us : List (Upstream S)) → StandsIn r r' → AllListed b r w us → AllListed b r' w us
+  all_in b r r' w [] stands all = tt
+  all_in b r r' w (u ∷ us) stands all = (all.0, listed_in r r' w u stands all.1, all_in u.k r r' w us stands all.2)
+
+  -- Those to be read stand in another order.
+  pub queued_in : (r r' w : List ℕ) (q : Bool) (c : Side S) (us : List (Upstream S)) → StandsIn r r' → AreQueued r w q c us → AreQueued r' w q c us
+  queued_in r r' w q c us stands before =
+      record { client_is = record { queued = λ is. stands 0 (before.client_is.queued is); may = before.client_is.may }; all_are = all_in 0 r r' w us stands before.all_are }
 
   -- An upstream was taken from those to be read.
   pub client_on : (n : ℕ) (r r' : List ℕ) (q : Bool) (c : Side S) → 0 < n → Grows r r' → IsClientListed (n ∷ r) q c → IsClientListed r' q c

@@ -4,3 +4,5 @@ pub mod Sides
 pub mod Performed
 pub mod Leaving
 pub mod Queues
+pub mod Tokens
+pub mod Departing

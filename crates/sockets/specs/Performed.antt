@@ -88,6 +88,28 @@ abbrev pub is_failed : Option Event → Bool
 is_failed (Some (event.UpFailed k)) = true
 is_failed event = false
 
+-- whether an event tells of the client: what came of it, or that it took something
+abbrev pub tells_of_client : Event → Bool
+tells_of_client (event.Client octets) = true
+tells_of_client event.ClientEnd = true
+tells_of_client (event.ClientTook count) = true
+tells_of_client (event.Up k octets) = false
+tells_of_client (event.UpEnd k) = false
+tells_of_client (event.UpFailed k) = false
+tells_of_client (event.UpTook k count) = false
+
+-- whether nothing comes
+abbrev pub is_nothing : Next → Bool
+is_nothing (Happened event) = false
+is_nothing Nothing = true
+is_nothing Over = false
+
+-- whether what comes tells of the client
+abbrev pub moves_client : Next → Bool
+moves_client (Happened event) = tells_of_client event
+moves_client Nothing = false
+moves_client Over = false
+
 -- what an event of an upstream tells of it
 abbrev pub up_news : Option Event → News
 up_news (Some (event.Up k octets)) = came_news octets.items
@@ -136,14 +158,14 @@ module _ {S : Type 0} (left held : S → Option (List ℕ)) where
   abbrev pub SendsTo : ℕ → List ℕ → List (Upstream S) → List (Upstream S) → Type 0
   SendsTo k octets old new = (IsOpenNowhere k old × (new ≡ old)) ⊎ Changes k (Sends octets) old new
 
-  -- What an output does to the client's socket and to the open connections. They are found by their numbers, which rise. A connection is opened to the address
+  -- What an output does to the client's socket and to the open connections, in the world of the client with this number. They are found by their numbers, which rise. A connection is opened to the address
   -- of its route.
-  abbrev pub Performs : List SocketAddr → Output → Side S → List (Upstream S) → Side S → List (Upstream S) → Type 0
-  Performs addresses (Client octets) client upstreams client' upstreams' = Goes left held (put_news octets.items) client client' × (upstreams' ≡ upstreams)
-  Performs addresses (Open k route) client upstreams client' upstreams' = (client' ≡ client) × Opens (IsNew k (slice_get addresses route)) upstreams upstreams'
-  Performs addresses (Up k octets) client upstreams client' upstreams' = (client' ≡ client) × (AreRising upstreams → SendsTo k octets upstreams upstreams')
-  Performs addresses (Close k) client upstreams client' upstreams' = (client' ≡ client) × (AreRising upstreams → Closes k upstreams upstreams')
-  Performs addresses CloseClient client upstreams client' upstreams' = Goes left held no_news client client' × (upstreams' ≡ upstreams)
+  abbrev pub Performs : ℕ → List SocketAddr → Output → Side S → List (Upstream S) → Side S → List (Upstream S) → Type 0
+  Performs number addresses (Client octets) client upstreams client' upstreams' = Goes left held (put_news octets.items) client client' × (upstreams' ≡ upstreams)
+  Performs number addresses (Open k route) client upstreams client' upstreams' = (client' ≡ client) × Opens (IsNew number k (slice_get addresses route)) upstreams upstreams'
+  Performs number addresses (Up k octets) client upstreams client' upstreams' = (client' ≡ client) × (AreRising upstreams → SendsTo k octets upstreams upstreams')
+  Performs number addresses (Close k) client upstreams client' upstreams' = (client' ≡ client) × (AreRising upstreams → Closes k upstreams upstreams')
+  Performs number addresses CloseClient client upstreams client' upstreams' = Goes left held no_news client client' × (upstreams' ≡ upstreams)
 
   -- What an output leaves that couldn't be performed: of its octets a front at most was put out, and nothing else.
   abbrev pub Leaves : Output → Side S → List (Upstream S) → Side S → List (Upstream S) → Type 0

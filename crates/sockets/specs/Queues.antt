@@ -1,5 +1,5 @@
 -- Which sockets stand among those of which something may be read, and which upstreams among those of which it may have to be told what they took.
-use Rattle.std.specs.Prelude.{◌≡◌, ◌<◌, ◌++◌, ℕ, Bool, true, false, nat_lt, List, [], ◌∷◌, Option, None, Some, ⊤}
+use Rattle.std.specs.Prelude.{◌≡◌, ◌<◌, ◌++◌, ◌&&◌, ◌==◌, ℕ, Bool, true, false, not, nat_lt, if◌then◌else◌, List, [], ◌∷◌, length, Option, None, Some, ⊤}
 use Rattle.std.specs.List.{Contains}
 use Rattle.outputs.specs.declared.events.Output.{Output}
 use Rattle.outputs.specs.declared.events.Output.TheVariants.{Open}
@@ -57,3 +57,17 @@ HadQueued number sockets = AreQueued (number ∷ sockets.ready.items) sockets.wr
 abbrev pub OpensAnew : {S : Type 0} → Output → List (Upstream S) → Type 0
 OpensAnew (Open k route) upstreams = (0 < k) × IsOpenNowhere k upstreams
 OpensAnew output upstreams = ⊤
+
+-- whether the client, whose number is 0, is the next one to be read
+abbrev pub is_client_first : List ℕ → Bool
+is_client_first [] = false
+is_client_first (number ∷ numbers) = number == 0
+
+-- those to be read, where the client goes behind the others if it is the next one
+abbrev pub client_last : List ℕ → List ℕ
+client_last [] = []
+client_last (number ∷ numbers) = if number == 0 then numbers ++ number ∷ [] else number ∷ numbers
+
+-- Octets came of the client since all sockets were last looked at, and it is the next one to be read, though connections are open.
+abbrev pub is_behind : {N S Stream Listener : Type 0} → Sockets N S Stream Listener → Bool
+is_behind sockets = (sockets.is_client_heard && is_client_first sockets.ready.items) && not (length sockets.upstreams.items == 0)

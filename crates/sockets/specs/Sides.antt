@@ -17,6 +17,7 @@ use Rattle.transfers.specs.declared.incoming.Got.{Got}
 use Rattle.transfers.specs.declared.incoming.Got.TheVariants.{Octets, Nothing, End}
 use Rattle.worlds.specs.declared.world.WorldFault.{WorldFault}
 use Rattle.sockets.specs.Putting.{Passes, PassesFront}
+use Rattle.sockets.specs.Tokens.{token_number}
 
 -- What is told of a socket: which octets of it were read, if that is told; whether its end was; which were put out, and of how many that it took is told.
 pub record News : Type 0 where
@@ -168,12 +169,12 @@ pub record IsBegun {S : Type 0} (token : ℕ) (side : Side S) : Type 0 where
   pub nothing : side.out ≡ nothing_put
   pub unread : side.ended ≡ false
 
--- An upstream is new: it is connected to this address under its number, if there is one and a socket could be made. Nothing was put out for it, and none of its
+-- An upstream of the client with this number is new: it is connected to this address, if there is one and a socket could be made, under its own token. Nothing was put out for it, and none of its
 -- writes failed.
-pub record IsNew {S : Type 0} (k : ℕ) (address : Option SocketAddr) (upstream : Upstream S) : Type 0 where
+pub record IsNew {S : Type 0} (client k : ℕ) (address : Option SocketAddr) (upstream : Upstream S) : Type 0 where
   pub number : upstream.k ≡ k
   pub address_is : upstream.address ≡ address
-  pub begun : IfSome upstream.side (IsBegun k)
+  pub begun : IfSome upstream.side (IsBegun (token_number client k))
   pub whole : upstream.broken ≡ false
 
 -- What a report or a failed write said of a side it says still.

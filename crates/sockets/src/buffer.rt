@@ -1,6 +1,6 @@
 //! Where octets are read to.
 
-ghost use Rattle.std.specs.Prelude.{◌≡◌, ◌↔◌, length, false, min, vec_len, IfOk, IfSome, IsTrue, OnErr};
+ghost use Rattle.std.specs.Prelude.{◌≡◌, ◌↔◌, length, false, min, vec_len, IfOk, IfSome, IsTrue, OnErr, OnOk};
 ghost use Rattle.transfers.specs.Transfers.{Gives};
 ghost use Rattle.sockets.specs.Sides.{lost_news, may_go_on, out_of, IsOf, GoesOn};
 ghost use Rattle.sockets.specs.Performed.{GoesBy, FitsRoom};
@@ -17,18 +17,39 @@ use worlds::WorldFault;
 /// The most octets that come in one event.
 const PIECE: usize = 65536;
 
-/// Room for as many octets as come in one event at most; kept from read to read.
+/// Room for as many octets as come in one event at most, from the first read on; kept from read to read.
 #[derive(Drop)]
 pub struct Buffer {
     octets: Vec<u8>,
-    ghost long: { vec_len octets ≡ 65536 },
 }
 
 impl Buffer {
+    /// Room that is made by the first read. It takes no memory as yet.
+    pub fn new(alloc: Global) -> Buffer
+        ensures { vec_len result.octets ≡ 0 }
+    {
+        Buffer {
+            octets: Vec::new(alloc),
+        }
+    }
+
     /// Room for octets.
-    pub fn new(alloc: Global) -> Result<Buffer, AllocError> {
+    pub fn filled(alloc: Global) -> Result<Buffer, AllocError>
+        ensures { IfOk result (λ buffer. vec_len buffer.octets ≡ 65536) }
+    {
         let octets = vec![in alloc; 0; PIECE]?;
         Ok(Buffer { octets })
+    }
+
+    /// Has room.
+    fn fill(&mut self, alloc: Global) -> Result<(), AllocError>
+        ensures { OnOk result (vec_len self.new.octets ≡ 65536) }
+    {
+        if self.octets.len() == PIECE {
+            return Ok(());
+        }
+        self.octets = vec![in alloc; 0; PIECE]?;
+        Ok(())
     }
 
     /// Reads what is there of a side.
@@ -40,6 +61,7 @@ impl Buffer {
         ensures readable { IfOk result (λ got. side.new.readable ≡ may_go_on got) }
         ensures stays { side.new ≡ record side.old { socket = side.new.socket; readable = side.new.readable; ended = side.new.ended } }
     {
+        self.fill(alloc)?;
         side.read(alloc, &mut self.octets)
     }
 
@@ -57,6 +79,10 @@ impl Buffer {
         ensures stays { upstream.new ≡ record upstream.old { side = upstream.new.side; is_queued = false } }
         ensures out { out_of upstream.new.side ≡ out_of upstream.old.side }
     {
+        let Ok(()) = self.fill(alloc) else {
+            upstream.leave_queue();
+            return Err(WorldFault {});
+        };
         read_front(alloc, upstream, &mut self.octets, room)
     }
 }

@@ -78,6 +78,10 @@ impl Wire for Filling<'_> {
         self.read_on()?;
         self.far.shutdown(Shutdown::Write)
     }
+
+    fn end(&mut self) -> io::Result<()> {
+        self.near.end()
+    }
 }
 
 /// A socket, of which nothing was read yet.

@@ -187,6 +187,15 @@ impl<S: Wire> Side<S> {
         Ok(())
     }
 
+    /// Ends what its peer sends: what came before is still read, and then its end.
+    pub fn end(&mut self) -> io::Result<()>
+        ensures left { S.left self.new.socket ≡ S.left self.old.socket }
+        ensures held { S.held self.new.socket ≡ S.held self.old.socket }
+        ensures stays { self.new ≡ record self.old { socket = self.new.socket } }
+    {
+        self.socket.end()
+    }
+
     /// Reads what is there, as far as there is room.
     pub fn read(&mut self, alloc: Global, room: &mut [u8]) -> io::Result<Got>
         ensures gives { IfOk result (λ got. Gives (S.left self.old.socket) (S.left self.new.socket) (length room.old) got) }

@@ -143,6 +143,10 @@ impl Wire for Noting<'_> {
     fn shut(&mut self) -> io::Result<()> {
         self.near.shut()
     }
+
+    fn end(&mut self) -> io::Result<()> {
+        self.near.end()
+    }
 }
 
 #[test]

@@ -112,6 +112,10 @@ impl Wire for Failing {
     fn shut(&mut self) -> io::Result<()> {
         self.near.shut()
     }
+
+    fn end(&mut self) -> io::Result<()> {
+        self.near.end()
+    }
 }
 
 /// How a connection comes to its end.

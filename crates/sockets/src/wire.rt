@@ -27,6 +27,11 @@ pub trait Wire: Socket + Drop {
     fn shut(&mut self) -> io::Result<()>
         ensures left { Self.left self.new ≡ Self.left self.old }
         ensures held { Self.held self.new ≡ Self.held self.old };
+
+    /// Ends what its peer sends: what came before is still read, and then its end, which is reported.
+    fn end(&mut self) -> io::Result<()>
+        ensures left { Self.left self.new ≡ Self.left self.old }
+        ensures held { Self.held self.new ≡ Self.held self.old };
 }
 
 impl Wire for TcpStream {
@@ -45,5 +50,9 @@ impl Wire for TcpStream {
 
     fn shut(&mut self) -> io::Result<()> {
         self.shutdown(Shutdown::Write)
+    }
+
+    fn end(&mut self) -> io::Result<()> {
+        self.shutdown(Shutdown::Read)
     }
 }

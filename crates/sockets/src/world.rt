@@ -1,29 +1,34 @@
 //! The world of sockets.
 
-ghost use Rattle.std.specs.Prelude.{◌≡◌, ◌+◌, ◌<◌, ◌^◌, ℕ, None, Option, Some, Ok, Err, [], ◌∷◌, ◌++◌, false, true, List, length, IfSome, IfNone, IfOk, IsOkAnd, OnOk, OnErr, ◌&&◌, not, get_or, is_ok, slice_get, if◌then◌else◌};
+ghost use Rattle.std.specs.Prelude.{◌≡◌, ◌+◌, ◌<◌, ◌^◌, ℕ, None, Option, Some, Ok, Err, [], ◌∷◌, ◌++◌, false, true, List, length, IfSome, IfNone, IfOk, IsOkAnd, OnOk, OnErr, ◌&&◌, ◌||◌, not, get_or, is_ok, slice_get, if◌then◌else◌};
 ghost use Rattle.model.specs.Logs.{Step};
 ghost use Rattle.mio.specs.Events.{items as reported};
 ghost use Rattle.outputs.specs.Views.{output_of};
 ghost use Rattle.worlds.specs.Worlds.{AddsEvent, AddsHanded, KeepsRooms, SaysOver, with_outputs};
-ghost use Rattle.sockets.specs.Performed.{AreRising, IsOpenNowhere, Opens, Changes, SendsTo, Performs, Leaves, AllGoOn, MovesOn, Fits, client_heard, got_news, IsWithin, is_failed, told_by, no_log, none_handed};
-ghost use Rattle.sockets.specs.Queues.{Grows, IsMarked, IsListed, AllListed, IsClientListed, HasQueued, HadQueued, OpensAnew};
+ghost use Rattle.sockets.specs.Performed.{AreRising, IsOpenNowhere, Opens, Changes, SendsTo, Performs, Leaves, AllGoOn, MovesOn, Fits, client_heard, got_news, IsWithin, is_failed, told_by, tells_of_client, is_nothing, moves_client, no_log, none_handed};
+ghost use Rattle.sockets.specs.Departing.{departing};
+ghost use Rattle.sockets.specs.Tokens.{number_of_client, token_number, IsOfAnother};
+ghost use Rattle.sockets.specs.Queues.{Grows, IsMarked, IsListed, AllListed, IsClientListed, HasQueued, HadQueued, OpensAnew, is_client_first, client_last, is_behind};
 ghost use Rattle.sockets.specs.Sides.{no_news, lost_news, IsBegun, IsNew, Goes, SendsFront, may_go_on, may_be_ready, may_read, owes};
 ghost use Rattle.std.specs.List.{Contains};
 
 use crate::buffer::Buffer;
+use crate::departure::{Departure, drop_piece, write_rest};
 use crate::leaving::Leaving;
+use crate::reporting::{Own, Reporting, Shared, number_in};
 use crate::rooms::room_of;
 use crate::side::Side;
 use crate::upstream::Upstream;
 use crate::wire::Wire;
 use gateway::{Event, Output};
-use mio::{Events, Poll, Registry, Token};
+use mio::event::Event as Report;
+use mio::{Events, Registry, Token};
 use std::alloc::Global;
 use std::collections::VecDeque;
-use std::io;
 use std::io::ErrorKind;
 use std::net::{Net, SocketAddr};
 use std::time::{Clock, Duration, Instant};
+use std::{io, mem};
 use transfers::{Got, PutFault};
 use worlds::{Next, World, WorldFault};
 
@@ -46,15 +51,19 @@ const ROUND: u32 = 64;
 /// In so many turns a client is left at most.
 const MOST_TURNS_LEAVING: u32 = 10_000_000;
 
-/// How many sockets may be reported at once.
-const REPORTS: usize = 128;
-
 /// One client, and the upstreams that are opened for it, over sockets that don't wait. It stores no log.
+///
+/// A world that was made by `new` waits where nothing is there. One that was made by `under` doesn't: then `next` says that nothing comes, and something comes
+/// only once the world was told of a report (`hear`).
 #[derive(Drop)]
 pub struct SocketWorld<'a, N: Net + Clock, S> {
     sockets: Sockets<'a, N, S>,
     calls: u64,
     failures: u64,
+    /// Its last `next` said that nothing comes, and nothing was reported since.
+    is_quiet: bool,
+    /// Something came of the client, or its socket took something, since that was last asked.
+    has_moved: bool,
 }
 
 /// The sockets, and what is kept of them from turn to turn.
@@ -63,8 +72,7 @@ struct Sockets<'a, N: Net + Clock, S> {
     alloc: Global,
     net: &'a N,
     addresses: &'a [SocketAddr],
-    poll: Poll,
-    reports: Events,
+    reporting: Reporting<'a>,
     client: Side<S>,
     /// The client stands among the sockets of which something may be read.
     is_client_queued: bool,
@@ -77,6 +85,8 @@ struct Sockets<'a, N: Net + Clock, S> {
     buffer: Buffer,
     /// How many turns there were, from 0 on again behind the last number.
     turns: u32,
+    /// Octets came of the client since all sockets were last looked at.
+    is_client_heard: bool,
 }
 
 impl<'a, N: Net + Clock, S: Wire> SocketWorld<'a, N, S> {
@@ -89,31 +99,137 @@ impl<'a, N: Net + Clock, S: Wire> SocketWorld<'a, N, S> {
     ) -> io::Result<SocketWorld<'a, N, S>>
         ensures counts { IfOk result (λ world. (world.calls ≡ 0) × (world.failures ≡ 0)) }
         ensures addresses { IfOk result (λ world. world.sockets.addresses.now ≡ addresses.now) }
+        ensures number { IfOk result (λ world. number_of_client world.sockets.reporting ≡ 0) }
         ensures nothing { IfOk result (λ world. IsBegun 0 world.sockets.client × (world.sockets.upstreams.items ≡ [])) }
         ensures queued { IfOk result (λ world. HasQueued world.sockets) }
     {
-        let poll = Poll::new(net)?;
-        let token = token_of(CLIENT);
-        let client = Side::new(alloc, poll.registry(), client, token, WRITTEN_AT_ONCE)?;
-        let sockets = Sockets {
-            alloc,
-            net,
-            addresses,
-            poll,
-            reports: Events::with_capacity(alloc, REPORTS)?,
-            client,
-            is_client_queued: false,
-            upstreams: Vec::new(alloc),
-            ready: VecDeque::new(alloc),
-            writes: VecDeque::new(alloc),
-            buffer: Buffer::new(alloc)?,
-            turns: 0,
+        let own = Own::new(alloc, net)?;
+        let buffer = Buffer::filled(alloc)?;
+        let sockets = Sockets::new(alloc, net, addresses, Reporting::Own(own), buffer, client)?;
+        Ok(SocketWorld::of(sockets))
+    }
+
+    /// Such a world under a reactor with these sources, among whose clients it has this number, which is above 0. Until it is lent a buffer (`swap_buffer`) it makes one
+    /// as it needs it.
+    pub fn under(
+        alloc: Global,
+        net: &'a N,
+        addresses: &'a [SocketAddr],
+        registry: &'a Registry,
+        number: u32,
+        client: S,
+    ) -> io::Result<SocketWorld<'a, N, S>>
+        ensures counts { IfOk result (λ world. (world.calls ≡ 0) × (world.failures ≡ 0)) }
+        ensures addresses { IfOk result (λ world. world.sockets.addresses.now ≡ addresses.now) }
+        ensures number { IfOk result (λ world. number_of_client world.sockets.reporting ≡ number) }
+        ensures nothing { IfOk result (λ world. IsBegun (token_number number 0) world.sockets.client × (world.sockets.upstreams.items ≡ [])) }
+        ensures queued { IfOk result (λ world. HasQueued world.sockets) }
+    {
+        let shared = Shared {
+            registry,
+            client: number,
         };
-        Ok(SocketWorld {
+        let buffer = Buffer::new(alloc);
+        let reporting = Reporting::Shared(shared);
+        let sockets = Sockets::new(alloc, net, addresses, reporting, buffer, client)?;
+        Ok(SocketWorld::of(sockets))
+    }
+
+    /// A world of these sockets, that wasn't asked for anything yet.
+    fn of(sockets: Sockets<'a, N, S>) -> SocketWorld<'a, N, S>
+        ensures counts { (result.calls ≡ 0) × (result.failures ≡ 0) }
+        ensures sockets { result.sockets ≡ sockets.entry }
+    {
+        SocketWorld {
             sockets,
             calls: 0,
             failures: 0,
-        })
+            is_quiet: false,
+            has_moved: false,
+        }
+    }
+
+    /// Whether its last `next` said that nothing comes, and nothing was reported since: then nothing comes until something is.
+    pub fn is_quiet(&self) -> bool
+        ensures { result ≡ self.now.is_quiet }
+    {
+        self.is_quiet
+    }
+
+    /// Whether its reactor is to wait and tell it of reports (`hear`, `catch_up`) before its next turn: a connection that its server ended while it was idle is closed then before more
+    /// is read of the client, which may be a request that would go out on it.
+    pub fn is_behind(&self) -> bool
+        ensures { result ≡ is_behind self.now.sockets }
+    {
+        self.sockets.is_behind()
+    }
+
+    /// It was told of all reports: the client is read behind those connections of which something may be read by now.
+    pub fn catch_up(&mut self)
+        ensures calls { self.new.calls ≡ self.old.calls }
+        ensures failures { self.new.failures ≡ self.old.failures }
+        ensures client { self.new.sockets.client ≡ self.old.sockets.client }
+        ensures upstreams { self.new.sockets.upstreams ≡ self.old.sockets.upstreams }
+        ensures queued { HasQueued self.old.sockets → HasQueued self.new.sockets }
+        ensures quiet { self.new.is_quiet ≡ self.old.is_quiet }
+        ensures moved { self.new.has_moved ≡ self.old.has_moved }
+        ensures ready { self.new.sockets.ready.items ≡ client_last self.old.sockets.ready.items }
+        ensures behind { is_behind self.new.sockets ≡ false }
+    {
+        self.sockets.put_client_last();
+    }
+
+    /// Whether something came of the client, or its socket took something that was told of, since this was last asked.
+    pub fn take_moved(&mut self) -> bool
+        ensures moved { result ≡ self.old.has_moved }
+        ensures stays { self.new ≡ record self.old { has_moved = false } }
+    {
+        let has_moved = self.has_moved;
+        self.has_moved = false;
+        has_moved
+    }
+
+    /// Lends it another buffer, and has its own back. What lies in one is of no meaning between calls.
+    pub fn swap_buffer(&mut self, buffer: &mut Buffer)
+        ensures stays { self.new ≡ record self.old { sockets = record self.old.sockets { buffer = buffer.old } } }
+        ensures had { buffer.new ≡ self.old.sockets.buffer }
+    {
+        mem::swap(&mut self.sockets.buffer, buffer);
+    }
+
+    /// Notes what was reported of one of its sockets, and writes what waits for that, if it takes octets again; a report of another client's changes nothing. An error is the
+    /// client's socket's, or says that memory was refused: then the client is lost.
+    pub fn hear(&mut self, report: &Report) -> Result<(), WorldFault>
+        ensures others { IsOfAnother report.now (number_of_client self.old.sockets.reporting) → (result ≡ Ok tt) × (self.new.sockets ≡ self.old.sockets) }
+        ensures calls { self.new.calls ≡ self.old.calls }
+        ensures failures { self.new.failures ≡ self.old.failures }
+        ensures rising { AreRising self.old.sockets.upstreams.items → AreRising self.new.sockets.upstreams.items }
+        ensures moves { MovesOn S.left S.held (Ok None) self.old.sockets.client self.old.sockets.upstreams.items self.new.sockets.client self.new.sockets.upstreams.items }
+        ensures queued { OnOk result (HasQueued self.old.sockets → HasQueued self.new.sockets) }
+        ensures quiet { self.new.is_quiet ≡ false }
+    {
+        self.is_quiet = false;
+        self.sockets.hear(report)
+    }
+
+    /// Ends what the client sends: what came of it before is still read, and then its end, as where it had ended that itself.
+    pub fn end_client(&mut self) -> io::Result<()>
+        ensures calls { self.new.calls ≡ self.old.calls }
+        ensures failures { self.new.failures ≡ self.old.failures }
+        ensures client { Goes S.left S.held no_news self.old.sockets.client self.new.sockets.client }
+        ensures stays { self.new.sockets.client ≡ record self.old.sockets.client { socket = self.new.sockets.client.socket } }
+        ensures upstreams { self.new.sockets.upstreams ≡ self.old.sockets.upstreams }
+    {
+        self.sockets.client.end()
+    }
+
+    /// Leaves the client, as `finish` does, but without waiting, beside others; the connections to upstreams are closed.
+    pub fn leave(self, now: Instant) -> Departure<S>
+        ensures { result ≡ departing now self.entry.sockets.client }
+    {
+        let SocketWorld { sockets, .. } = self;
+        let Sockets { client, .. } = sockets;
+        Departure::begin(client, now)
     }
 
     /// Leaves the client, and closes the connections to upstreams: what was put out for the client is written as its socket takes it, and then what still
@@ -131,7 +247,39 @@ impl<'a, N: Net + Clock, S: Wire> SocketWorld<'a, N, S> {
 }
 
 impl<'a, N: Net + Clock, S: Wire> Sockets<'a, N, S> {
-    /// What comes next. Where nothing is there the world waits once, until something is reported.
+    /// The socket of a client, which is reported from now on, and no others.
+    fn new(
+        alloc: Global,
+        net: &'a N,
+        addresses: &'a [SocketAddr],
+        reporting: Reporting<'a>,
+        buffer: Buffer,
+        client: S,
+    ) -> io::Result<Sockets<'a, N, S>>
+        ensures addresses { IfOk result (λ sockets. sockets.addresses.now ≡ addresses.now) }
+        ensures reporting { IfOk result (λ sockets. sockets.reporting ≡ reporting.entry) }
+        ensures nothing { IfOk result (λ sockets. IsBegun (token_number (number_of_client reporting.entry) 0) sockets.client × (sockets.upstreams.items ≡ [])) }
+        ensures queued { IfOk result (λ sockets. HasQueued sockets) }
+    {
+        let token = reporting.token_of(CLIENT);
+        let client = Side::new(alloc, reporting.registry(), client, token, WRITTEN_AT_ONCE)?;
+        Ok(Sockets {
+            alloc,
+            net,
+            addresses,
+            reporting,
+            client,
+            is_client_queued: false,
+            upstreams: Vec::new(alloc),
+            ready: VecDeque::new(alloc),
+            writes: VecDeque::new(alloc),
+            buffer,
+            turns: 0,
+            is_client_heard: false,
+        })
+    }
+
+    /// What comes next. Where nothing is there the world waits once, until something is reported, unless it is told of that.
     fn find_next(&mut self, rooms: &[(u32, usize)]) -> Result<Option<Event>, WorldFault>
         ensures moves { MovesOn S.left S.held result self.old.client self.old.upstreams.items self.new.client self.new.upstreams.items }
         ensures fits { IfOk result (λ event. Fits rooms.now event) }
@@ -158,10 +306,42 @@ impl<'a, N: Net + Clock, S: Wire> Sockets<'a, N, S> {
             self.look(Some(Duration::ZERO))?;
             return self.read_ready(rooms);
         }
-        if self.turns % ROUND == ROUND / 2 {
-            return Ok(self.tell());
+        if let Some(event) = self.tell_in_turn() {
+            return Ok(Some(event));
         }
+        self.look_ahead()?;
         Ok(None)
+    }
+
+    /// In some turns what sockets took that wasn't told of, if they took some.
+    fn tell_in_turn(&mut self) -> Option<Event>
+        ensures moves { MovesOn S.left S.held (Ok result) self.old.client self.old.upstreams.items self.new.client self.new.upstreams.items }
+        ensures fits { (rooms : List (ℕ × ℕ)) → Fits rooms result }
+        ensures queued { HasQueued self.old → HasQueued self.new }
+    {
+        if self.turns % ROUND == ROUND / 2 {
+            return self.tell();
+        }
+        None
+    }
+
+    /// Looks at all sockets before the client is read again, where connections are open: one that its server ended while it was idle is closed before a request
+    /// comes that would go out on it.
+    fn look_ahead(&mut self) -> Result<(), WorldFault>
+        ensures moves { MovesOn S.left S.held (Ok None) self.old.client self.old.upstreams.items self.new.client self.new.upstreams.items }
+        ensures queued { OnOk result (HasQueued self.old → HasQueued self.new) }
+    {
+        if self.is_behind() {
+            return self.look(Some(Duration::ZERO));
+        }
+        Ok(())
+    }
+
+    /// Whether the client would be read again before all sockets are looked at, though connections are open.
+    fn is_behind(&self) -> bool
+        ensures { result ≡ is_behind self.now }
+    {
+        self.is_client_heard && self.is_client_next() && !self.upstreams.is_empty()
     }
 
     /// An event that is there already. Where nothing may be read any more, what waits for the client is written.
@@ -177,7 +357,7 @@ impl<'a, N: Net + Clock, S: Wire> Sockets<'a, N, S> {
         if let Some(event) = self.read_ready(rooms)? {
             return Ok(Some(event));
         }
-        self.client.flush(self.poll.registry())?;
+        self.client.flush(self.reporting.registry())?;
         Ok(self.tell())
     }
 
@@ -246,6 +426,7 @@ impl<'a, N: Net + Clock, S: Wire> Sockets<'a, N, S> {
     {
         self.is_client_queued = false;
         let got = self.read_of_client()?;
+        self.is_client_heard = self.is_client_heard || matches!(got, Got::Octets(_));
         self.queue_client()?;
         Ok(client_event(got))
     }
@@ -316,27 +497,92 @@ impl<'a, N: Net + Clock, S: Wire> Sockets<'a, N, S> {
         }
     }
 
-    /// Waits until a socket is reported, at most so long where that is said, notes what is, and writes what waits for those that take octets again.
+    /// Waits until a socket is reported, at most so long where that is said, notes what is, and writes what waits for those that take octets again. A world that
+    /// is told what is reported doesn't wait.
     fn look(&mut self, most: Option<Duration>) -> Result<(), WorldFault>
         ensures moves { MovesOn S.left S.held (Ok None) self.old.client self.old.upstreams.items self.new.client self.new.upstreams.items }
         ensures queued { OnOk result (HasQueued self.old → HasQueued self.new) }
     {
-        match self.poll.poll(&mut self.reports, most) {
+        let Reporting::Own(own) = &mut self.reporting else {
+            return Ok(());
+        };
+        match own.poll.poll(&mut own.reports, most) {
             Ok(()) => {}
             // A signal came. The next turn waits again.
             Err(error) if error.kind() == ErrorKind::Interrupted => return Ok(()),
             Err(_) => return Err(WorldFault {}),
         }
-        note_client(&self.reports, &mut self.client);
-        let registry = self.poll.registry();
+        note_client(&own.reports, &mut self.client);
+        let registry = own.poll.registry();
         heed_all(
-            &self.reports,
+            &own.reports,
             registry,
             &mut self.upstreams,
             &mut self.ready,
             &mut self.writes,
         )?;
         self.client.flush(registry)?;
+        self.queue_client()?;
+        self.put_client_last();
+        Ok(())
+    }
+
+    /// The client is read behind the others of which something may be read by now.
+    fn put_client_last(&mut self)
+        ensures upstreams { self.new.upstreams ≡ self.old.upstreams }
+        ensures client { self.new.client ≡ self.old.client }
+        ensures writes { self.new.writes ≡ self.old.writes }
+        ensures queued { self.new.is_client_queued ≡ self.old.is_client_queued }
+        ensures heard { self.new.is_client_heard ≡ false }
+        ensures ready { self.new.ready.items ≡ client_last self.old.ready.items }
+        ensures stand { (number : ℕ) → Contains self.old.ready.items number → Contains self.new.ready.items number }
+    {
+        self.is_client_heard = false;
+        if self.is_client_next() {
+            self.ready.rotate_left(1);
+        }
+    }
+
+    /// Whether the client is the next one to be read.
+    fn is_client_next(&self) -> bool
+        ensures { result ≡ is_client_first self.now.ready.items }
+    {
+        match self.ready.front() {
+            Some(number) => *number == CLIENT,
+            None => false,
+        }
+    }
+
+    /// Notes what was reported of one socket, and writes what waits for it, if it takes octets again; what isn't of this client's is none of its.
+    fn hear(&mut self, report: &Report) -> Result<(), WorldFault>
+        ensures others { IsOfAnother report.now (number_of_client self.old.reporting) → (result ≡ Ok tt) × (self.new ≡ self.old) }
+        ensures rising { AreRising self.old.upstreams.items → AreRising self.new.upstreams.items }
+        ensures moves { MovesOn S.left S.held (Ok None) self.old.client self.old.upstreams.items self.new.client self.new.upstreams.items }
+        ensures queued { OnOk result (HasQueued self.old → HasQueued self.new) }
+    {
+        if !self.reporting.has(report.token()) {
+            return Ok(());
+        }
+        if number_in(report.token()) == CLIENT {
+            return self.hear_of_client(report);
+        }
+        heed(
+            report,
+            self.reporting.registry(),
+            &mut self.upstreams,
+            &mut self.ready,
+            &mut self.writes,
+        )
+    }
+
+    /// Notes what was reported of the client's socket, and writes what waits for it, if it takes octets again.
+    fn hear_of_client(&mut self, report: &Report) -> Result<(), WorldFault>
+        ensures upstreams { self.new.upstreams ≡ self.old.upstreams }
+        ensures moves { MovesOn S.left S.held (Ok None) self.old.client self.old.upstreams.items self.new.client self.new.upstreams.items }
+        ensures queued { OnOk result (HasQueued self.old → HasQueued self.new) }
+    {
+        self.client.note(report);
+        self.client.flush(self.reporting.registry())?;
         self.queue_client()
     }
 
@@ -365,16 +611,12 @@ impl<'a, N: Net + Clock, S: Wire> Sockets<'a, N, S> {
         ensures upstreams { self.new.upstreams ≡ self.old.upstreams }
         ensures client { Goes S.left S.held lost_news self.old.client self.new.client }
     {
-        self.client.flush(self.poll.registry())?;
-        leaving.note_waiting(Instant::now(self.net)?, self.client.waiting());
-        if self.client.waiting() > 0 {
-            return Ok(false);
-        }
-        if self.client.is_ended() {
-            return Ok(true);
-        }
-        self.client.shut()?;
-        Ok(false)
+        write_rest(
+            &mut self.client,
+            leaving,
+            self.reporting.registry(),
+            Instant::now(self.net)?,
+        )
     }
 
     /// Reads and drops what comes of the client, or waits for it, at most so long.
@@ -385,25 +627,32 @@ impl<'a, N: Net + Clock, S: Wire> Sockets<'a, N, S> {
         if !self.client.is_readable() {
             return self.hear_client(most);
         }
-        let _ = self.buffer.read(self.alloc, &mut self.client)?;
-        leaving.note_heard(Instant::now(self.net)?);
-        Ok(())
+        drop_piece(
+            self.alloc,
+            self.net,
+            &mut self.client,
+            leaving,
+            &mut self.buffer,
+        )
     }
 
-    /// Waits until the client's socket is reported, at most so long, and notes what is.
+    /// Waits until the client's socket is reported, at most so long, and notes what is. A world that is told what is reported doesn't wait.
     fn hear_client(&mut self, most: Duration) -> io::Result<()>
         ensures upstreams { self.new.upstreams ≡ self.old.upstreams }
         ensures client { Goes S.left S.held no_news self.old.client self.new.client }
     {
-        self.poll.poll(&mut self.reports, Some(most))?;
-        note_client(&self.reports, &mut self.client);
+        let Reporting::Own(own) = &mut self.reporting else {
+            return Ok(());
+        };
+        own.poll.poll(&mut own.reports, Some(most))?;
+        note_client(&own.reports, &mut self.client);
         Ok(())
     }
 
     /// Opens a connection to its route's address. One that can't be made fails at a later `next`.
     fn open(&mut self, k: u32, route: u32) -> Result<(), WorldFault>
         ensures client { self.new.client ≡ self.old.client }
-        ensures opens { OnOk result (Opens (IsNew k (slice_get self.old.addresses.now route)) self.old.upstreams.items self.new.upstreams.items) }
+        ensures opens { OnOk result (Opens (IsNew (number_of_client self.old.reporting) k (slice_get self.old.addresses.now route)) self.old.upstreams.items self.new.upstreams.items) }
         ensures err { OnErr result (self.new.upstreams.items ≡ self.old.upstreams.items) }
         ensures rising { AreRising self.old.upstreams.items → AreRising self.new.upstreams.items }
         ensures queued { OnOk result (0 < k → IsOpenNowhere k self.old.upstreams.items → HasQueued self.old → HasQueued self.new) }
@@ -417,7 +666,7 @@ impl<'a, N: Net + Clock, S: Wire> Sockets<'a, N, S> {
 
     /// Begins a connection to an address, if there is one.
     fn begin(&self, k: u32, address: Option<SocketAddr>) -> Result<Upstream<S>, WorldFault>
-        ensures new { IfOk result (IsNew k address) }
+        ensures new { IfOk result (IsNew (number_of_client self.now.reporting) k address) }
         ensures unmarked { IfOk result (λ upstream. (upstream.is_queued ≡ false) × (upstream.is_listed ≡ false)) }
     {
         let side = match address {
@@ -439,18 +688,19 @@ impl<'a, N: Net + Clock, S: Wire> Sockets<'a, N, S> {
             return Ok(());
         };
         let upstream = &mut self.upstreams[place];
-        upstream.put(self.poll.registry(), octets)?;
+        upstream.put(self.reporting.registry(), octets)?;
         list(upstream, &mut self.ready, &mut self.writes)
     }
 
     /// Begins to connect to an address.
     fn connect(&self, k: u32, address: SocketAddr) -> Result<Option<Side<S>>, WorldFault>
-        ensures { IfOk result (λ side. IfSome side (IsBegun k)) }
+        ensures { IfOk result (λ side. IfSome side (IsBegun (token_number (number_of_client self.now.reporting) k))) }
     {
         let Ok(socket) = S::connect(self.net, address) else {
             return Ok(None);
         };
-        let side = Side::new(self.alloc, self.poll.registry(), socket, token_of(k), 0);
+        let token = self.reporting.token_of(k);
+        let side = Side::new(self.alloc, self.reporting.registry(), socket, token, 0);
         match side {
             Ok(side) => Ok(Some(side)),
             Err(error) if error.kind() == ErrorKind::OutOfMemory => Err(WorldFault {}),
@@ -461,12 +711,12 @@ impl<'a, N: Net + Clock, S: Wire> Sockets<'a, N, S> {
     /// Does what an output says.
     fn perform(&mut self, output: &Output) -> Result<(), WorldFault>
         ensures rising { AreRising self.old.upstreams.items → AreRising self.new.upstreams.items }
-        ensures performs { OnOk result (Performs S.left S.held self.old.addresses.now output.now self.old.client self.old.upstreams.items self.new.client self.new.upstreams.items) }
+        ensures performs { OnOk result (Performs S.left S.held (number_of_client self.old.reporting) self.old.addresses.now output.now self.old.client self.old.upstreams.items self.new.client self.new.upstreams.items) }
         ensures leaves { OnErr result (Leaves S.left S.held output.now self.old.client self.old.upstreams.items self.new.client self.new.upstreams.items) }
         ensures queued { OnOk result (OpensAnew output.now self.old.upstreams.items → HasQueued self.old → HasQueued self.new) }
     {
         match output {
-            Output::Client(octets) => match self.client.put(self.poll.registry(), octets) {
+            Output::Client(octets) => match self.client.put(self.reporting.registry(), octets) {
                 Ok(()) => Ok(()),
                 Err(PutFault::Socket(_) | PutFault::Memory) => Err(WorldFault {}),
             },
@@ -519,11 +769,20 @@ impl<'a, N: Net + Clock, S: Wire> World for SocketWorld<'a, N, S> {
         ensures moves { MovesOn S.left S.held (told_by result) self.old.sockets.client self.old.sockets.upstreams.items self.new.sockets.client self.new.sockets.upstreams.items }
         ensures fits { IfOk (told_by result) (λ event. Fits rooms.now event) }
         ensures queued { OnOk result (HasQueued self.old.sockets → HasQueued self.new.sockets) }
+        ensures quiet { IfOk result (λ next. self.new.is_quiet ≡ is_nothing next) }
+        ensures moved { IfOk result (λ next. self.new.has_moved ≡ (self.old.has_moved || moves_client next)) }
     {
         self.calls += 1;
         match self.sockets.find_next(rooms) {
-            Ok(Some(event)) => Ok(Next::Happened(event)),
-            Ok(None) => Ok(Next::Nothing),
+            Ok(Some(event)) => {
+                self.is_quiet = false;
+                self.has_moved = self.has_moved || is_of_client(&event);
+                Ok(Next::Happened(event))
+            }
+            Ok(None) => {
+                self.is_quiet = true;
+                Ok(Next::Nothing)
+            }
             Err(fault) => {
                 self.failures += 1;
                 Err(fault)
@@ -542,7 +801,7 @@ impl<'a, N: Net + Clock, S: Wire> World for SocketWorld<'a, N, S> {
         ensures over { false ≡ false }
         ensures keeps_rooms { true ≡ true }
         ensures rising { AreRising self.old.sockets.upstreams.items → AreRising self.new.sockets.upstreams.items }
-        ensures performs { OnOk result (Performs S.left S.held self.old.sockets.addresses.now output.now self.old.sockets.client self.old.sockets.upstreams.items self.new.sockets.client self.new.sockets.upstreams.items) }
+        ensures performs { OnOk result (Performs S.left S.held (number_of_client self.old.sockets.reporting) self.old.sockets.addresses.now output.now self.old.sockets.client self.old.sockets.upstreams.items self.new.sockets.client self.new.sockets.upstreams.items) }
         ensures leaves { OnErr result (Leaves S.left S.held output.now self.old.sockets.client self.old.sockets.upstreams.items self.new.sockets.client self.new.sockets.upstreams.items) }
         ensures queued { OnOk result (OpensAnew output.now self.old.sockets.upstreams.items → HasQueued self.old.sockets → HasQueued self.new.sockets) }
     {
@@ -564,13 +823,6 @@ fn address_of(route: u32, addresses: &[SocketAddr]) -> Option<SocketAddr>
     }
 }
 
-/// The token under which a socket is reported.
-fn token_of(number: u32) -> Token
-    ensures { result.0 ≡ number }
-{
-    Token(number as usize)
-}
-
 /// The place of a connection.
 fn place_of<S>(k: u32, upstreams: &[Upstream<S>]) -> Option<usize>
     ensures within { IfSome result (λ place. place < length upstreams.now) }
@@ -586,8 +838,7 @@ fn place_of<S>(k: u32, upstreams: &[Upstream<S>]) -> Option<usize>
 fn place_under<S>(token: Token, upstreams: &[Upstream<S>]) -> Option<usize>
     ensures { IfSome result (λ place. place < length upstreams.now) }
 {
-    let k = u32::try_from(token.0).ok()?;
-    place_of(k, upstreams)
+    place_of(number_in(token), upstreams)
 }
 
 /// The event that a read of the client's socket gives, if it gives one.
@@ -598,6 +849,16 @@ fn client_event(got: Got) -> Option<Event>
         Got::Octets(piece) => Some(Event::Client(piece)),
         Got::End => Some(Event::ClientEnd),
         Got::Nothing => None,
+    }
+}
+
+/// Whether an event tells of the client: what came of it, or that it took something.
+fn is_of_client(event: &Event) -> bool
+    ensures { result ≡ tells_of_client event.now }
+{
+    match event {
+        Event::Client(_) | Event::ClientEnd | Event::ClientTook(_) => true,
+        Event::Up(_, _) | Event::UpEnd(_) | Event::UpFailed(_) | Event::UpTook(_, _) => false,
     }
 }
 
@@ -613,7 +874,7 @@ fn note_client<S: Wire>(reports: &Events, client: &mut Side<S>)
     ensures { Goes S.left S.held no_news client.old client.new }
 {
     for report in reports {
-        if report.token() == token_of(CLIENT) {
+        if number_in(report.token()) == CLIENT {
             client.note(report);
         }
     }
@@ -632,13 +893,29 @@ fn heed_all<S: Wire>(
     ensures listed { OnOk result (AllListed 0 ready.old.items writes.old.items upstreams.old.items → AllListed 0 ready.new.items writes.new.items upstreams.new.items) }
 {
     for report in reports {
-        if let Some(place) = place_under(report.token(), upstreams) {
-            let upstream = &mut upstreams[place];
-            upstream.heed(report, registry);
-            list(upstream, ready, writes)?;
-        }
+        heed(report, registry, upstreams, ready, writes)?;
     }
     Ok(())
+}
+
+/// Notes what was reported of an upstream, if it is open, and writes what waits for it, if it takes octets again.
+fn heed<S: Wire>(
+    report: &Report,
+    registry: &Registry,
+    upstreams: &mut Vec<Upstream<S>>,
+    ready: &mut VecDeque<u32>,
+    writes: &mut VecDeque<u32>,
+) -> Result<(), WorldFault>
+    ensures goes { AllGoOn S.left S.held no_news upstreams.old.items upstreams.new.items }
+    ensures ready { Grows ready.old.items ready.new.items }
+    ensures listed { OnOk result (AllListed 0 ready.old.items writes.old.items upstreams.old.items → AllListed 0 ready.new.items writes.new.items upstreams.new.items) }
+{
+    let Some(place) = place_under(report.token(), upstreams) else {
+        return Ok(());
+    };
+    let upstream = &mut upstreams[place];
+    upstream.heed(report, registry);
+    list(upstream, ready, writes)
 }
 
 /// Lists an upstream where it belongs by now: among those of which something may be read, and among those that may have taken octets.

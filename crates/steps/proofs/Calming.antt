@@ -1,5 +1,5 @@
 -- The connection ends in place of a frame, since too many octets for the client are untaken: this comes by the rule.
-use Rattle.std.proofs.Common.{◌≡◌, ℕ, true, false, nat_lt, List, [], ◌∷◌, ◌++◌, reverse, None, refl, sym, ◌∙◌, ap, subst, append_assoc, arith}
+use Rattle.std.proofs.Common.{◌≡◌, ℕ, nat_lt, List, [], ◌∷◌, ◌++◌, reverse, None, refl, sym, ◌∙◌, ap, subst, append_assoc, arith}
 use Rattle.std.proofs.lemmas.Bool.{ltb-true}
 use Rattle.model.specs.Admission.{most_untaken}
 use Rattle.model.specs.Frames.{goaway, enhance_your_calm}
@@ -16,8 +16,7 @@ use Rattle.serving.specs.State as serving
 use Rattle.serving.specs.Lines.{Line}
 use Rattle.serving.specs.State.Due.{Nothing}
 use Rattle.upstreams.specs.Connections.{lives}
-use Rattle.policy.specs.Answered.{IsAnswered}
-use Rattle.policy.specs.Ending.{calming_of, IsCrowded, by_number, closed_all, ending_of, ending_on_tape, Ends}
+use Rattle.policy.specs.Ending.{calming_of, IsCrowded, closed_all, ending_of, Ends}
 use Rattle.policy.specs.Moves.{Deed, Move, entry_of}
 use Rattle.policy.specs.Moves.Move.{Does}
 use Rattle.policy.specs.Rule.{AllAllowed, RestsBehind}
@@ -26,7 +25,7 @@ use Rattle.policy.specs.Steps.{told_by}
 use Rattle.policy.proofs.EndingAnswers.{answered}
 use Rattle.policy.proofs.EndingStarts.{calming_leads}
 use Rattle.relay.specs.Bringing.{AreOwn, PerformsOwn, Brings}
-use Rattle.relay.specs.Crowding.{WouldBeSent, IsCrowdedView}
+use Rattle.relay.specs.Crowding.{WouldBeSent}
 use Rattle.relay.specs.Performing.{put_all}
 use Rattle.relay.specs.View.{View, Pending, square, AreSo, Leads}
 use Rattle.relay.proofs.Bringing.{own_behind}

@@ -1,7 +1,9 @@
 pub mod Lists
 pub mod Requests
 pub mod Openings
+pub mod Numbers
 pub mod Idling
+pub mod Searching
 pub mod Changing
 pub mod Waiting
 pub mod Passed

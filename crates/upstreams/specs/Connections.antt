@@ -1,6 +1,5 @@
 -- Open connections.
-use Rattle.std.specs.Prelude.{◌≡◌, ℕ, suc, ◌+◌, ◌<◌, ◌≤◌, ◌==◌, ◌^◌, Bool, false, if◌then◌else◌, List, [], ◌∷◌, map, length, reverse, Option, Some, None}
-use Rattle.model.specs.Idle.{most_idle}
+use Rattle.std.specs.Prelude.{ℕ, nat_lt, suc, ◌+◌, ◌<◌, ◌==◌, ◌^◌, Bool, false, not, ◌&&◌, if◌then◌else◌, List, [], ◌∷◌, map, filter, length, reverse, Option, Some, None}
 use Rattle.h1_reader.specs.declared.reader.Place.TheVariants as place
 use Rattle.answers.specs.Waiting.{Answer}
 use Rattle.answers.specs.declared.answer.Passing.{Passing}
@@ -83,14 +82,27 @@ abbrev pub is_idle_one : Option Connection → Bool
 is_idle_one None = false
 is_idle_one (Some c) = is_idle c.live.answer
 
+-- and is of the route
+abbrev pub is_idle_one_of : ℕ → Option Connection → Bool
+is_idle_one_of route None = false
+is_idle_one_of route (Some c) = is_idle c.live.answer && c.live.route == route
+
 -- how many are idle
 abbrev pub idle_count : List Connection → ℕ
 idle_count cs = length (idle_ones (lives cs))
 
--- So many are idle, and they aren't too many.
-pub record AreCounted (connections : List Connection) (idle : ℕ) : Type 0 where
-  pub counted : idle ≡ idle_count (reverse connections)
-  pub few : idle ≤ most_idle
+-- the numbers of those that are idle, by rising number, where the connections stand with the oldest first
+abbrev pub idle_numbers : List Connection → List ℕ
+idle_numbers cs = reverse (idle_ones (lives (reverse cs)))
+
+-- numbers but this one
+abbrev pub others : ℕ → List ℕ → List ℕ
+others k ks = filter (λ j. not (j == k)) ks
+
+-- this one among numbers that rise
+abbrev pub among : ℕ → List ℕ → List ℕ
+among k [] = k ∷ []
+among k (j ∷ js) = if nat_lt j k then j ∷ among k js else k ∷ j ∷ js
 
 -- ---- where they lie
 

@@ -8,7 +8,7 @@ use Rattle.serving.specs.Lines.{least_idle}
 use Rattle.serving.specs.State as serving
 use Rattle.serving.specs.State.{Held, held_with, Due, is_whole, unless_whole, waits_from, to_open}
 use Rattle.serving.specs.State.Way.{Waiting, Going}
-use Rattle.upstreams.specs.Connections.{Connection, lives, fresh, opened, given_at, AreBelow, AreCounted}
+use Rattle.upstreams.specs.Connections.{Connection, lives, fresh, opened, given_at, idle_numbers, AreBelow}
 
 -- The streams whose requests aren't whole, the open connections, and how many were opened.
 pub record State : Type 0 where
@@ -24,11 +24,11 @@ with_due s due = record { held = s.held; live = lives s.live; due = due; count =
 abbrev pub nothing : State
 nothing = record { held = []; live = []; count = 0 }
 
--- What holds of them: no stream is held twice, numbers rise to that of the last that was opened, and so many are idle.
-pub record AreKept (held : List Held) (connections : List Connection) (idle count : ℕ) : Type 0 where
+-- What holds of them: no stream is held twice, numbers rise to that of the last that was opened, and those that are idle have these numbers.
+pub record AreKept (held : List Held) (connections : List Connection) (idle : List ℕ) (count : ℕ) : Type 0 where
   pub apart : AreApart (reverse held)
   pub below : AreBelow (suc count) (reverse connections)
-  pub few_idle : AreCounted connections idle
+  pub idle_are : idle ≡ idle_numbers connections
 
 -- a connection was opened for a stream, by this route, and what its request's text waits for goes out there
 abbrev pub opened_for : ℕ → ℕ → Bool → Passing → Stage → State → State

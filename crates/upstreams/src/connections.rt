@@ -1,9 +1,8 @@
 //! Open connections, the oldest first, found by their numbers.
 
 ghost use Rattle.std.specs.Prelude.{◌≡◌, suc, ◌+◌, ◌<◌, ◌≤◌, ◌^◌, map, reverse, Some, None, MatchOption, IfSome, IfNone};
-ghost use Rattle.model.specs.Idle.{most_idle};
-ghost use Rattle.serving.specs.Lines.{find, without, least_idle, idle_beside};
-ghost use Rattle.upstreams.specs.Connections.{number_of, works_for, lives, marked_at, given_at, answer_at, put_at, taken_at, is_idle_one, idle_count, AreCounted, AreRising, IsOpenAt, IsOpenNowhere};
+ghost use Rattle.serving.specs.Lines.{find, without, least_idle};
+ghost use Rattle.upstreams.specs.Connections.{number_of, works_for, lives, marked_at, given_at, answer_at, put_at, taken_at, is_idle_one, is_idle_one_of, idle_numbers, AreRising, IsOpenAt, IsOpenNowhere};
 ghost use Rattle.upstreams.specs.Progress.{answer_of};
 
 use crate::connection::Connection;
@@ -44,64 +43,43 @@ pub fn of_stream(connections: &[Connection], id: u32) -> Option<&Connection>
     None
 }
 
-/// The idle connection of the route at this place that was opened first, if there is one.
-pub fn least_idle(connections: &[Connection], route: u32) -> Option<u32>
+/// Whether the connection with this number is open, idle and of the route at this place.
+fn is_idle_of(connections: &[Connection], k: u32, route: u32) -> bool
     requires { AreRising connections.now }
+    ensures { result ≡ is_idle_one_of route (find number_of k (reverse connections.now)) }
+{
+    match find(connections, k) {
+        Some(connection) => connection.is_idle_of(route),
+        None => false,
+    }
+}
+
+/// The idle connection of the route at this place that was opened first, if there is one, where those that are idle have these numbers.
+pub fn least_idle(connections: &[Connection], idle: &[u32], route: u32) -> Option<u32>
+    requires rising { AreRising connections.now }
+    requires are { idle.now ≡ idle_numbers connections.now }
     ensures { result ≡ least_idle route (lives (reverse connections.now)) }
 {
-    for connection in connections.iter() {
-        if connection.is_idle_of(route) {
-            return Some(connection.number());
+    for number in idle.iter() {
+        if is_idle_of(connections, *number, route) {
+            return Some(*number);
         }
     }
     None
 }
 
-/// Whether the connection with this number is open and idle.
-fn is_idle(connections: &[Connection], k: u32) -> bool
-    requires { AreRising connections.now }
-    ensures { result ≡ is_idle_one (find number_of k (reverse connections.now)) }
-{
-    match find(connections, k) {
-        Some(connection) => connection.is_idle(),
-        None => false,
-    }
-}
-
-/// How many connections are idle beside the one with this number, where so many are.
-pub fn idle_beside(connections: &[Connection], k: u32, idle: usize) -> usize
-    requires rising { AreRising connections.now }
-    requires few { AreCounted connections.now idle }
-    ensures { result ≡ idle_beside k (lives (reverse connections.now)) }
-{
-    if is_idle(connections, k) {
-        idle - 1
-    } else {
-        idle
-    }
-}
-
-/// How many connections are idle, where so many are beside the one with this number.
-pub fn idle_with(connections: &[Connection], k: u32, beside: usize) -> usize
-    requires rising { AreRising connections.now }
-    requires counted { beside ≡ idle_beside k (lives (reverse connections.now)) }
-    requires few { beside ≤ most_idle }
-    ensures { result ≡ idle_count (reverse connections.now) }
-{
-    if is_idle(connections, k) {
-        beside + 1
-    } else {
-        beside
-    }
-}
-
-/// The response of the connection with this number is so far.
-pub fn mark(connections: &mut Vec<Connection>, k: u32, progress: Progress)
+/// The response of the connection with this number is so far; whether the connection is open, and idle with it.
+pub fn mark(connections: &mut Vec<Connection>, k: u32, progress: Progress) -> bool
     requires { AreRising connections.old.items }
-    ensures { reverse connections.new.items ≡ map (marked_at k (answer_of progress)) (reverse connections.old.items) }
+    ensures marked { reverse connections.new.items ≡ map (marked_at k (answer_of progress)) (reverse connections.old.items) }
+    ensures idle { result ≡ is_idle_one (find number_of k (reverse connections.new.items)) }
 {
-    if let Some(place) = place_of(connections, k) {
-        connections[place].mark(progress);
+    match place_of(connections, k) {
+        Some(place) => {
+            connections[place].mark(progress);
+            progress.is_idle()
+        }
+        None => false,
     }
 }
 

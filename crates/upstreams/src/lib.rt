@@ -7,6 +7,7 @@
 mod connection;
 mod connections;
 mod held;
+mod idle;
 pub mod laws;
 mod progress;
 mod upstreams;

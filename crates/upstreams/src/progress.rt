@@ -5,7 +5,7 @@ ghost use Rattle.serving.specs.Lines.{answer_by, is_idle};
 ghost use Rattle.upstreams.specs.Progress.{answer_of, heard_of};
 
 /// How many connections may be idle at once.
-const MOST_IDLE: usize = 8;
+pub(crate) const MOST_IDLE: usize = 8;
 
 /// How far the response on a connection is.
 #[derive(Clone, Copy, Debug, PartialEq, Eq)]

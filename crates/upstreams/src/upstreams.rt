@@ -13,10 +13,11 @@ ghost use Rattle.upstreams.specs.Kept.{nothing, opened_for, given_for, Begins};
 ghost use Rattle.upstreams.specs.Progress.{heard_of};
 
 use crate::connection::Connection;
-use crate::connections;
 use crate::held::{self, Due, Held, Outgoing, Way};
-use crate::progress::Verdict;
+use crate::progress::{MOST_IDLE, Verdict};
+use crate::{connections, idle};
 use answers::{Answer, Passing};
+use arrayvec::ArrayVec;
 use h1_writer::Text;
 use hpack_table::Field;
 use request_rules::RequestHead;
@@ -31,8 +32,8 @@ pub struct Upstreams {
     alloc: Global,
     held: Vec<Held>,
     connections: Vec<Connection>,
-    /// How many of them are idle.
-    idle: usize,
+    /// The numbers of those that are idle, which rise.
+    idle: ArrayVec<u32, MOST_IDLE>,
     count: u32,
 }
 
@@ -44,7 +45,7 @@ impl Model for Upstreams {
 
     ghost view = { λ u. record { held = reverse u.held.items; live = reverse u.connections.items; count = u.count } };
 
-    ghost invariant = { λ u. AreKept u.held.items u.connections.items u.idle u.count };
+    ghost invariant = { λ u. AreKept u.held.items u.connections.items u.idle.items u.count };
 }
 
 impl Upstreams {
@@ -56,7 +57,7 @@ impl Upstreams {
             alloc,
             held: Vec::new(alloc),
             connections: Vec::new(alloc),
-            idle: 0,
+            idle: ArrayVec::new(),
             count: 0,
         }
     }
@@ -188,14 +189,11 @@ impl Upstreams {
         Ok(k)
     }
 
-    /// The idle connection of the route at this place that was opened first, if there is one. Where none is idle no connection is looked at.
+    /// The idle connection of the route at this place that was opened first, if there is one. No connection is looked at that isn't idle.
     pub fn least_idle(&self, route: u32) -> Option<u32>
         ensures { result ≡ least_idle route (lives self.now.live) }
     {
-        if self.idle == 0 {
-            return None;
-        }
-        connections::least_idle(&self.connections, route)
+        connections::least_idle(&self.connections, self.idle.as_slice(), route)
     }
 
     /// An open connection, which is idle, is given to a stream, whose request's method is HEAD or isn't (RFC 9112, section 9.3): of the response
@@ -215,7 +213,7 @@ impl Upstreams {
     {
         let answer = Answer::new(self.alloc, to_head, passing);
         held::hold_rest(&mut self.held, stream, k, rest)?;
-        self.idle = connections::idle_beside(&self.connections, k, self.idle);
+        idle::strike(&mut self.idle, k);
         connections::give(&mut self.connections, k, stream, answer);
         Ok(())
     }
@@ -248,9 +246,11 @@ impl Upstreams {
     pub fn mark_heard(&mut self, k: u32, verdict: Verdict)
         ensures { self.new ≡ record self.old { live = heard_at k (heard_of verdict) self.old.live } }
     {
-        let beside = connections::idle_beside(&self.connections, k, self.idle);
-        connections::mark(&mut self.connections, k, verdict.progress(beside));
-        self.idle = connections::idle_with(&self.connections, k, beside);
+        idle::strike(&mut self.idle, k);
+        let progress = verdict.progress(self.idle.len());
+        if connections::mark(&mut self.connections, k, progress) {
+            idle::enter(&mut self.idle, k);
+        }
     }
 
     /// Lends out the answer of a connection, as far as it has come, for which this one takes its place until it is put back by the same
@@ -266,7 +266,7 @@ impl Upstreams {
     pub fn close(&mut self, k: u32)
         ensures { self.new ≡ record self.old { held = map (drop_from k) self.old.held; live = without number_of k self.old.live } }
     {
-        self.idle = connections::idle_beside(&self.connections, k, self.idle);
+        idle::strike(&mut self.idle, k);
         held::drop_from(&mut self.held, k);
         connections::remove(&mut self.connections, k);
     }

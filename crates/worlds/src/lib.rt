@@ -2,9 +2,11 @@
 #![tactic(auto)]
 
 mod memory;
+mod service;
 mod services;
 mod world;
 
 pub use memory::MemoryWorld;
+pub use service::Service;
 pub use services::{Ended, Peer, ServeFault, serve};
 pub use world::{Next, World, WorldFault};

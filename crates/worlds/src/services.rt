@@ -1,6 +1,6 @@
 //! A gateway before a world.
 
-ghost use Rattle.std.specs.Prelude.{◌≡◌, ℕ, ◌+◌, ◌<◌, ◌≤◌, ◌^◌, ◌∷◌, ◌++◌, [], List, Option, Some, length, reverse, true, false, IsOkAnd, IsErrOf, OnOk, OnErr, IfOk};
+ghost use Rattle.std.specs.Prelude.{◌≡◌, ℕ, ◌+◌, ◌<◌, ◌≤◌, ◌^◌, ◌∷◌, ◌++◌, [], List, Option, Some, length, reverse, None, true, false, IsOkAnd, IsErrOf, OnOk, OnErr, IfOk};
 ghost use Rattle.model.specs.Logs.{Step, Output as Put};
 ghost use Rattle.std.specs.List.{list_any};
 ghost use Rattle.model.specs.Setup.{Setup};
@@ -11,9 +11,11 @@ ghost use Rattle.gateway.specs.Setups.{setup_of, IsServable};
 ghost use Rattle.gateway.specs.Stands.{Stands};
 ghost use Rattle.gateway.specs.Rooms.{AreRooms};
 ghost use Rattle.worlds.specs.Worlds.{Handed, AddsRun, AddsFront, AddsFrontTo, AddsRefused, AddsRefusedTo, AddsUnanswered, AddsUnansweredTo, AreAllHanded, Hands, HandsTo, SaysEnd, ends, with_outputs, came, closes, has_closed, Serves, StandsWithRooms, peer_of};
+ghost use Rattle.worlds.specs.Services.{Begins};
 ghost use Rattle.model.specs.Rooms.{IsAdmitted};
 ghost use Rattle.conduct.specs.Rule.{known_of};
 
+use crate::service::Service;
 use crate::world::{Next, World, WorldFault};
 use gateway::{Config, Event, Gateway, Output};
 use std::alloc::Global;
@@ -97,6 +99,7 @@ fn take_event<W: World>(
     requires stands { (setup : Setup) × StandsWithRooms setup gateway.old rooms.old.items }
     ensures calls { W.calls world.new ≡ W.calls world.old }
     ensures failures { OnOk result (W.failures world.new ≡ W.failures world.old) }
+    ensures most_failures { W.failures world.new ≤ W.failures world.old + 1 }
     ensures stands { OnOk result ((setup : Setup) → StandsWithRooms setup gateway.old rooms.old.items → StandsWithRooms setup gateway.new rooms.new.items) }
     ensures world { IsErrOf result ServeFault.World → W.failures world.old < W.failures world.new }
     ensures log { IfOk result (λ closed. (setup : Setup) (before added : List Step) (run : List Move) (old : Option (List Handed)) → W.log world.old ≡ Some (before ++ added ++ came event.now ∷ [])
@@ -129,7 +132,7 @@ fn take_event<W: World>(
 }
 
 /// Takes a turn: asks the world what comes next, and takes the event if one does. The answer is how serving ended, if it did.
-fn take_turn<W: World>(
+pub fn take_turn<W: World>(
     alloc: Global,
     gateway: &mut Gateway,
     world: &mut W,
@@ -138,8 +141,9 @@ fn take_turn<W: World>(
     requires calls { W.calls world.old + 1 < 2 ^ 64 }
     requires failures { W.failures world.old + 1 < 2 ^ 64 }
     requires stands { (setup : Setup) × StandsWithRooms setup gateway.old rooms.old.items }
-    ensures calls { OnOk result (W.calls world.new ≡ W.calls world.old + 1) }
+    ensures calls { W.calls world.new ≡ W.calls world.old + 1 }
     ensures failures { OnOk result (W.failures world.new ≡ W.failures world.old) }
+    ensures most_failures { W.failures world.new ≤ W.failures world.old + 1 }
     ensures stands { OnOk result ((setup : Setup) → StandsWithRooms setup gateway.old rooms.old.items → StandsWithRooms setup gateway.new rooms.new.items) }
     ensures world { IsErrOf result ServeFault.World → W.failures world.old < W.failures world.new }
     ensures over { IfOk result (λ ended. SaysEnd ended (W.over world.new)) }
@@ -210,38 +214,36 @@ pub fn serve<W: World>(
     ensures turns { IsOkAnd result (λ ended. ended ≡ Ended.Turns) → W.calls world.new ≡ W.calls world.old + turns }
     ensures over { IsOkAnd result (λ ended. ended ≡ Ended.Over) → W.over world.new ≡ true }
 {
-    let Ok(mut gateway) = Gateway::new(alloc, config) else {
+    let Ok(mut service) = Service::new(alloc, config) else {
         return Err(ServeFault::Memory);
     };
-    serve_turns(alloc, &mut gateway, world, turns)
+    serve_turns(&mut service, world, turns)
 }
 
-/// Serves a world with a gateway that no event came to. That one is lent keeps it out of the many ways in which this ends.
+/// Serves a world by turns of a service that took none yet. That one is lent keeps it out of the many ways in which this ends.
 fn serve_turns<W: World>(
-    alloc: Global,
-    gateway: &mut Gateway,
+    service: &mut Service,
     world: &mut W,
     turns: u64,
 ) -> Result<Ended, ServeFault>
-    requires begins { (setup : Setup) × Stands setup gateway.old [] [] }
+    requires begins { service.old.outcome ≡ None }
     requires turns { W.calls world.old + turns < 2 ^ 64 }
     requires failures { W.failures world.old + 1 < 2 ^ 64 }
-    ensures run { IfOk result (λ ended. (setup : Setup) → Stands setup gateway.old [] [] → AddsRun setup ended (W.log world.old) (W.log world.new)) }
+    ensures run { IfOk result (λ ended. (setup : Setup) → Begins setup service.old → AddsRun setup ended (W.log world.old) (W.log world.new)) }
     ensures world { IsErrOf result ServeFault.World → W.failures world.old < W.failures world.new }
-    ensures front { IsErrOf result ServeFault.World → (setup : Setup) → Stands setup gateway.old [] [] → AddsFront setup (W.log world.old) (W.log world.new) }
-    ensures refused { (peer : Peer) → IsErrOf result (ServeFault.NotAdmitted peer) → (setup : Setup) → Stands setup gateway.old [] [] → AddsRefused setup peer (W.log world.old) (W.log world.new) }
+    ensures front { IsErrOf result ServeFault.World → (setup : Setup) → Begins setup service.old → AddsFront setup (W.log world.old) (W.log world.new) }
+    ensures refused { (peer : Peer) → IsErrOf result (ServeFault.NotAdmitted peer) → (setup : Setup) → Begins setup service.old → AddsRefused setup peer (W.log world.old) (W.log world.new) }
     ensures upstreams { W.keeps_rooms world.old ≡ true → (k : ℕ) → IsErrOf result (ServeFault.NotAdmitted (Peer.Upstream k)) → ⊥ }
     ensures memory { IsErrOf result ServeFault.Memory → (W.failures world.new ≡ W.failures world.old)
-        × ((setup : Setup) → Stands setup gateway.old [] [] → AddsUnanswered setup (W.log world.old) (W.log world.new)) }
+        × ((setup : Setup) → Begins setup service.old → AddsUnanswered setup (W.log world.old) (W.log world.new)) }
     ensures failures { OnOk result (W.failures world.new ≡ W.failures world.old) }
     ensures calls { OnOk result (W.calls world.new ≤ W.calls world.old + turns) }
-    ensures hands { (setup : Setup) → Stands setup gateway.old [] [] → Hands setup (W.log world.old) (W.handed world.old) (W.log world.new) (W.handed world.new) }
+    ensures hands { (setup : Setup) → Begins setup service.old → Hands setup (W.log world.old) (W.handed world.old) (W.log world.new) (W.handed world.new) }
     ensures turns { IsOkAnd result (λ ended. ended ≡ Ended.Turns) → W.calls world.new ≡ W.calls world.old + turns }
     ensures over { IsOkAnd result (λ ended. ended ≡ Ended.Over) → W.over world.new ≡ true }
 {
-    let mut rooms = Vec::new(alloc);
     for _turn in 0..turns {
-        match take_turn(alloc, gateway, world, &mut rooms) {
+        match service.take_turn(world) {
             Ok(None) => {}
             Ok(Some(ended)) => return Ok(ended),
             Err(fault) => return Err(fault),

@@ -1,5 +1,5 @@
 -- All that comes of a frame with a fragment, by the judgement's answer.
-use Rattle.std.proofs.Common.{◌≡◌, ℕ, ◌<◌, ◌≤◌, Bool, true, false, ◌||◌, ◌==◌, List, append-nil, length, Option, Some, None, refl, sym, ◌∙◌, ap, [], ◌∷◌}
+use Rattle.std.proofs.Common.{◌≡◌, ℕ, ◌<◌, ◌≤◌, true, false, ◌||◌, ◌==◌, List, append-nil, length, Option, Some, None, refl, sym, ◌∙◌, ap, [], ◌∷◌}
 use Rattle.std.specs.Prelude.{is_some}
 use Rattle.model.specs.Frames.{Frame, data_kind}
 use Rattle.model.specs.Logs.{Output}

@@ -25,7 +25,7 @@ use Rattle.conduct.specs.Book.{Book, summary_in}
 use Rattle.offering.specs.Outbox.{Outbox, Part, IsNext, IsItemOf, can_go, part_of}
 use Rattle.offering.specs.Outbox.Outbox.{Before, Behind, Over}
 use Rattle.offering.specs.Outbox.Part.{Early, Final, Octets, Trailing}
-use Rattle.offering.specs.State.{Kept, Windows, find, are_open, is_ready, is_ready_if, can_turn, ready}
+use Rattle.offering.specs.State.{Kept, Windows, find, are_open, is_ready_if, can_turn, ready}
 use Rattle.offering.proofs.Deciding.{chosen_next}
 use Rattle.offering.proofs.Listing.{filter_out}
 use Rattle.offering.specs.State as offering

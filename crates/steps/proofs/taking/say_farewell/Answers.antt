@@ -1,4 +1,4 @@
-use Rattle.std.proofs.Common.{ℕ, [], ◌∷◌, Option, refl, sym, ap, ◌∙◌, subst, inr}
+use Rattle.std.proofs.Common.{ℕ, [], ◌∷◌, Option, refl, sym, ap, subst, inr}
 use Rattle.std.specs.Prelude.{is_some}
 use Rattle.model.specs.Frames.{goaway, no_error}
 use Rattle.relay.specs.View.{square}

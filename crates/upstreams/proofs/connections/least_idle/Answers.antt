@@ -1,29 +1,28 @@
-use Rattle.std.proofs.Common.{rules, ◌≡◌, ◌<◌, ◌∙◌, Some, true, false, length, add-one, ap, sym}
-use Rattle.std.specs.Prelude.{slice_index_or}
-use Rattle.std.proofs.lemmas.List.{get_or_read}
-use Rattle.upstreams.specs.Connections.{no_connection}
-use Rattle.upstreams.proofs.Idling.{is_of, rest_rises, least_here, least_behind}
+use Rattle.std.proofs.Common.{rules, ◌≡◌, ◌<◌, ◌∙◌, true, false, length, add-one, ap, sym, arith}
+use Rattle.std.specs.Prelude.{reverse, slice_index_or}
+use Rattle.std.proofs.lemmas.List.{drop_all}
+use Rattle.upstreams.proofs.Numbers.{first_of, first_here, first_behind}
+use Rattle.upstreams.proofs.Searching.{tells, least_is}
 use Rattle.upstreams.proofs.connections.least_idle.Goals as goal
+
+pub loop-number-init : goal.loop-number-init
+loop-number-init c = least_is c.args.route c.args.connections.now c.args.idle.now c.requires.rising c.requires.are
 
 pub returns-then-is_idle_of : goal.returns-then-is_idle_of
 returns-then-is_idle_of c =
-    let cs = c.args.connections.now in
-    let i = c.loop-connection.connection-index in
-    let x = c.connection-item.result in
-    let within : i < length cs = search rules in
-    let there : x ≡ slice_index_or cs i no_connection = get_or_read cs i x within c.connection-item.is no_connection in
-    let own : is_of c.args.route x ≡ true = search rules in
-    ap Some c.number.ensures ∙ sym (least_here c.args.route i cs x no_connection within there c.loop-connection.invariant.rising own) ∙ c.loop-connection.invariant.least
+    let i = c.loop-number.number-index in
+    let within : i < length c.args.idle.now = search rules in
+    let own : tells c.args.route (reverse c.args.connections.now) (slice_index_or c.args.idle.now i 0) ≡ true = search rules in
+    sym (first_here (tells c.args.route (reverse c.args.connections.now)) c.args.idle.now i within own) ∙ c.loop-number.invariant
 
-pub loop-connection-preserved : goal.loop-connection-preserved
-loop-connection-preserved c =
-    let cs = c.args.connections.now in
-    let i = c.loop-connection.connection-index in
-    let x = c.connection-item.result in
-    let within : i < length cs = search rules in
-    let there : x ≡ slice_index_or cs i no_connection = get_or_read cs i x within c.connection-item.is no_connection in
-    let other : is_of c.args.route x ≡ false = search rules in
-    rw add-one (record {
-      rising = rest_rises c.args.route i cs x no_connection within there c.loop-connection.invariant.rising;
-      least = sym (least_behind c.args.route i cs x no_connection within there c.loop-connection.invariant.rising other) ∙ c.loop-connection.invariant.least;
-    })
+pub loop-number-preserved : goal.loop-number-preserved
+loop-number-preserved c =
+    let i = c.loop-number.number-index in
+    let within : i < length c.args.idle.now = search rules in
+    let other : tells c.args.route (reverse c.args.connections.now) (slice_index_or c.args.idle.now i 0) ≡ false = search rules in
+    rw add-one (sym (first_behind (tells c.args.route (reverse c.args.connections.now)) c.args.idle.now i within other) ∙ c.loop-number.invariant)
+
+pub returns : goal.returns
+returns c =
+    sym (ap (first_of (tells c.args.route (reverse c.args.connections.now))) (drop_all c.loop-number.number-index c.args.idle.now (omega arith)))
+    ∙ c.loop-number.invariant

@@ -1,4 +1,4 @@
-use Rattle.std.proofs.Common.{sym, ◌∙◌}
+use Rattle.std.proofs.Common.{◌∙◌}
 use Rattle.upstreams.proofs.Requests.{holds_at}
 use Rattle.upstreams.proofs.held.holds.Goals as goal
 

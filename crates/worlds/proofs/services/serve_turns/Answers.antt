@@ -1,6 +1,7 @@
-use Rattle.std.proofs.Common.{refl, ◌∙◌, arith, inr}
+use Rattle.std.proofs.Common.{Ok, refl, ap, ◌∙◌, arith, inr}
+use Rattle.worlds.specs.Services.{outcome_of}
 use Rattle.worlds.specs.declared.services.Ended.TheVariants.{Turns}
-use Rattle.worlds.proofs.Adding.{stands_none, serves_none, serves_run, same_fault, no_fault, hands_of}
+use Rattle.worlds.proofs.Adding.{serves_none, serves_run, same_fault, no_fault, hands_of}
 use Rattle.worlds.proofs.services.serve_turns.Goals as goal
 
 pub loop-turn-init : goal.loop-turn-init
@@ -8,66 +9,63 @@ loop-turn-init g c = record {
   calls = omega arith;
   failures = refl;
   keeps_rooms = refl;
-  stands = λ setup at. stands_none setup c.args.gateway.now c.new-rooms.result.items c.new-rooms.ensures.items at;
-  log = λ setup at before e. serves_none setup _ c.args.gateway.now c.new-rooms.result.items _ before e c.new-rooms.ensures.items at;
+  going = c.requires.begins;
+  log = λ setup at before e. serves_none setup _ c.args.service.now.gateway c.args.service.now.rooms _ before e at.no_rooms at.stands;
 }
 
 pub take_turn-requires-clause-calls : goal.take_turn-requires-clause-calls
 take_turn-requires-clause-calls g c = (let calls = c.loop-turn.invariant.calls in let end = c.loop-turn.auto._turn-end in let more = c.loop-turn-test.true in let turns = c.requires.turns in omega (arith, calls, end, more, turns))
 
-pub take_turn-requires-clause-stands : goal.take_turn-requires-clause-stands
-take_turn-requires-clause-stands g c = (c.requires.begins.0, c.loop-turn.invariant.stands c.requires.begins.0 c.requires.begins.1)
-
 pub loop-turn-preserved : goal.loop-turn-preserved
 loop-turn-preserved g c = record {
-  calls = (let a = c.in-Ok-None.ensures.calls in let i = c.loop-turn.invariant.calls in omega (arith, a, i));
+  calls = (let a = c.in-Ok-None.ensures.calls c.loop-turn.invariant.going in let i = c.loop-turn.invariant.calls in omega (arith, a, i));
   failures = c.in-Ok-None.ensures.failures ∙ c.loop-turn.invariant.failures;
   keeps_rooms = c.in-Ok-None.ensures.keeps_rooms ∙ c.loop-turn.invariant.keeps_rooms;
-  stands = λ setup at. c.in-Ok-None.ensures.stands setup (c.loop-turn.invariant.stands setup at);
-  log = λ setup at before e. (rw c.in-Ok-None.field-0-is at c.in-Ok-None.ensures.log) setup before _ (c.loop-turn.invariant.log setup at before e);
+  going = c.in-Ok-None.ensures.outcome ∙ ap (λ o. outcome_of (Ok o)) c.in-Ok-None.field-0-is;
+  log = λ setup at before e. (rw c.in-Ok-None.field-0-is at c.in-Ok-None.ensures.log) c.loop-turn.invariant.going setup before _ (c.loop-turn.invariant.log setup at before e);
 }
 
 pub returns-in-Ok-Some-clause-run : goal.returns-in-Ok-Some-clause-run
 returns-in-Ok-Some-clause-run g c = λ setup at before e.
-    serves_run _ _ c.in-Ok-Some.ended _ c.take_turn.new.gateway c.take_turn.new.rooms.items _ _ before
-    ((rw c.in-Ok-Some.field-0-is at c.in-Ok-Some.ensures.log) setup before _ (c.loop-turn.invariant.log setup at before e)) refl
+    serves_run _ _ c.in-Ok-Some.ended _ c.take_turn.new.self.gateway c.take_turn.new.self.rooms _ _ before
+    ((rw c.in-Ok-Some.field-0-is at c.in-Ok-Some.ensures.log) c.loop-turn.invariant.going setup before _ (c.loop-turn.invariant.log setup at before e)) refl
 
 pub returns-in-Ok-Some-clause-calls : goal.returns-in-Ok-Some-clause-calls
-returns-in-Ok-Some-clause-calls g c = (let calls = c.loop-turn.invariant.calls in let end = c.loop-turn.auto._turn-end in let more = c.loop-turn-test.true in let took = c.in-Ok-Some.ensures.calls in omega (arith, calls, end, more, took))
+returns-in-Ok-Some-clause-calls g c = (let calls = c.loop-turn.invariant.calls in let end = c.loop-turn.auto._turn-end in let more = c.loop-turn-test.true in let took = c.in-Ok-Some.ensures.calls c.loop-turn.invariant.going in omega (arith, calls, end, more, took))
 
 pub returns-in-Ok-Some-clause-hands : goal.returns-in-Ok-Some-clause-hands
 returns-in-Ok-Some-clause-hands g c = λ setup at before e.
-    hands_of _ _ _ c.take_turn.new.gateway c.take_turn.new.rooms.items _ _ before
-    ((rw c.in-Ok-Some.field-0-is at c.in-Ok-Some.ensures.log) setup before _ (c.loop-turn.invariant.log setup at before e))
+    hands_of _ _ _ c.take_turn.new.self.gateway c.take_turn.new.self.rooms _ _ before
+    ((rw c.in-Ok-Some.field-0-is at c.in-Ok-Some.ensures.log) c.loop-turn.invariant.going setup before _ (c.loop-turn.invariant.log setup at before e))
 
 pub returns-in-Err-clause-world : goal.returns-in-Err-clause-world
-returns-in-Err-clause-world g c = λ e. (let failed = c.in-Err.ensures.world (same_fault _ _ e) in let before = c.loop-turn.invariant.failures in omega (arith, failed, before))
+returns-in-Err-clause-world g c = λ e. (let failed = c.in-Err.ensures.world c.loop-turn.invariant.going (same_fault _ _ e) in let before = c.loop-turn.invariant.failures in omega (arith, failed, before))
 
 pub returns-in-Err-clause-front : goal.returns-in-Err-clause-front
-returns-in-Err-clause-front g c = λ e setup at before h. c.in-Err.ensures.front (same_fault _ _ e) setup before _ (c.loop-turn.invariant.log setup at before h)
+returns-in-Err-clause-front g c = λ e setup at before h. c.in-Err.ensures.front c.loop-turn.invariant.going (same_fault _ _ e) setup before _ (c.loop-turn.invariant.log setup at before h)
 
 pub returns-in-Err-clause-refused : goal.returns-in-Err-clause-refused
-returns-in-Err-clause-refused g c = λ peer e setup at before h. c.in-Err.ensures.refused peer (same_fault _ _ e) setup before _ (c.loop-turn.invariant.log setup at before h)
+returns-in-Err-clause-refused g c = λ peer e setup at before h. c.in-Err.ensures.refused c.loop-turn.invariant.going peer (same_fault _ _ e) setup before _ (c.loop-turn.invariant.log setup at before h)
 
 pub returns-in-Err-clause-upstreams : goal.returns-in-Err-clause-upstreams
-returns-in-Err-clause-upstreams g c = λ keeps k e. c.in-Err.ensures.upstreams (c.loop-turn.invariant.keeps_rooms ∙ keeps) k (same_fault _ _ e)
+returns-in-Err-clause-upstreams g c = λ keeps k e. c.in-Err.ensures.upstreams c.loop-turn.invariant.going (c.loop-turn.invariant.keeps_rooms ∙ keeps) k (same_fault _ _ e)
 
 pub returns-in-Err-clause-memory : goal.returns-in-Err-clause-memory
 returns-in-Err-clause-memory g c = λ e.
-    let left = c.in-Err.ensures.memory (same_fault _ _ e) in
+    let left = c.in-Err.ensures.memory c.loop-turn.invariant.going (same_fault _ _ e) in
     (left.0 ∙ c.loop-turn.invariant.failures, λ setup at before h. inr (left.1 setup before _ (c.loop-turn.invariant.log setup at before h)))
 
 pub returns-in-Err-clause-hands : goal.returns-in-Err-clause-hands
-returns-in-Err-clause-hands g c = λ setup at before h. c.in-Err.ensures.hands setup before _ (c.loop-turn.invariant.log setup at before h)
+returns-in-Err-clause-hands g c = λ setup at before h. c.in-Err.ensures.hands c.loop-turn.invariant.going setup before _ (c.loop-turn.invariant.log setup at before h)
 
 pub returns-clause-run : goal.returns-clause-run
-returns-clause-run g c = λ setup at before e. serves_run _ _ Turns _ c.loop-turn.gateway c.loop-turn.rooms.items _ _ before (c.loop-turn.invariant.log setup at before e) refl
+returns-clause-run g c = λ setup at before e. serves_run _ _ Turns _ c.loop-turn.service.gateway c.loop-turn.service.rooms _ _ before (c.loop-turn.invariant.log setup at before e) refl
 
 pub returns-clause-calls : goal.returns-clause-calls
 returns-clause-calls g c = (let calls = c.loop-turn.invariant.calls in let end = c.loop-turn.auto._turn-end in omega (arith, calls, end))
 
 pub returns-clause-hands : goal.returns-clause-hands
-returns-clause-hands g c = λ setup at before e. hands_of _ _ _ c.loop-turn.gateway c.loop-turn.rooms.items _ _ before (c.loop-turn.invariant.log setup at before e)
+returns-clause-hands g c = λ setup at before e. hands_of _ _ _ c.loop-turn.service.gateway c.loop-turn.service.rooms _ _ before (c.loop-turn.invariant.log setup at before e)
 
 pub returns-clause-turns : goal.returns-clause-turns
 returns-clause-turns g c = λ _. (let calls = c.loop-turn.invariant.calls in let end = c.loop-turn.auto._turn-end in let over = c.loop-turn-test.false in omega (arith, calls, end, over))

@@ -1,6 +1,7 @@
 use Rattle.std.proofs.Common.{rules, ◌≡◌, ◌∙◌, ap, sym, subst}
 use Rattle.std.specs.Prelude.{nat_lt, slice_get}
 use Rattle.sockets.specs.Sides.{IsNew}
+use Rattle.sockets.specs.Tokens.{number_of_client}
 use Rattle.std.specs.List.{insert}
 use Rattle.std.proofs.lemmas.List.Sorted.{IsPartitionedBy-ltb, IsPartitionPoint-from_clause}
 use Rattle.sockets.specs.declared.upstream.Upstream.{Upstream}
@@ -15,9 +16,9 @@ pub returns-clause-opens : goal.returns-clause-opens
 returns-clause-opens g c =
     let us = c.args.self.now.upstreams.items in
     let address = slice_get c.args.self.now.addresses.now c.args.route in
-    let begun : IsNew c.args.k address c.in_ok-upstream.upstream = subst (λ a. IsNew c.args.k a c.in_ok-upstream.upstream) c.address_of.ensures c.in_ok-upstream.ensures.new in
-    let new : IsNew c.args.k address c.list.new.upstream = new_listed c.args.k address c.in_ok-upstream.upstream c.list.new.upstream begun c.list.ensures.stays in
-    subst (λ items. Opens (IsNew c.args.k address) us items) (sym c.in_ok-insert.ensures.items) (one_more (IsNew c.args.k address) us c.partition_point-place.result c.list.new.upstream new)
+    let begun : IsNew (number_of_client c.args.self.now.reporting) c.args.k address c.in_ok-upstream.upstream = subst (λ a. IsNew (number_of_client c.args.self.now.reporting) c.args.k a c.in_ok-upstream.upstream) c.address_of.ensures c.in_ok-upstream.ensures.new in
+    let new : IsNew (number_of_client c.args.self.now.reporting) c.args.k address c.list.new.upstream = new_listed (number_of_client c.args.self.now.reporting) c.args.k address c.in_ok-upstream.upstream c.list.new.upstream begun c.list.ensures.stays in
+    subst (λ items. Opens (IsNew (number_of_client c.args.self.now.reporting) c.args.k address) us items) (sym c.in_ok-insert.ensures.items) (one_more (IsNew (number_of_client c.args.self.now.reporting) c.args.k address) us c.partition_point-place.result c.list.new.upstream new)
 
 pub returns-clause-rising : goal.returns-clause-rising
 returns-clause-rising g c = λ up.

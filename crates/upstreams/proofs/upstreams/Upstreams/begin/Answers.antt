@@ -9,5 +9,5 @@ pub invariant_of-self-in-Waits : goal.invariant_of-self-in-Waits
 invariant_of-self-in-Waits c = record {
   apart = subst AreApart (sym c.in_ok-hold-in-Waits.ensures.ok) (apart_with c.args.id (Some (Waiting c.in-Waits.request.route c.in-Waits.request.text c.in-Waits.request.stage c.in-Waits.request.body)) (reverse c.self.inside.held.items) c.self.invariant.apart);
   below = c.self.invariant.below;
-  few_idle = c.self.invariant.few_idle;
+  idle_are = c.self.invariant.idle_are;
 }

@@ -8,5 +8,5 @@ pub invariant_of-self : goal.invariant_of-self
 invariant_of-self c = record {
   apart = subst AreApart (sym c.take-request.ensures.rest) (apart_without c.args.id (reverse c.self.inside.held.items) c.self.invariant.apart);
   below = c.self.invariant.below;
-  few_idle = c.self.invariant.few_idle;
+  idle_are = c.self.invariant.idle_are;
 }

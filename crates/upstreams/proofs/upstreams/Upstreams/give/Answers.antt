@@ -1,20 +1,19 @@
-use Rattle.std.proofs.Common.{refl, sym, ap, ◌∙◌, subst}
+use Rattle.std.proofs.Common.{refl, sym, ◌∙◌, subst}
 use Rattle.std.specs.Prelude.{suc, reverse}
 use Rattle.serving.specs.Held.{AreApart}
-use Rattle.serving.specs.Lines.{idle_beside}
 use Rattle.serving.specs.State.{unless_whole}
 use Rattle.serving.specs.State.Way.{Going}
 use Rattle.serving.proofs.Served.{apart_with}
-use Rattle.upstreams.specs.Connections.{AreBelow, AreCounted, lives, given_at}
+use Rattle.upstreams.specs.Connections.{AreBelow, given_at}
 use Rattle.upstreams.specs.Requests.{stage_of}
 use Rattle.upstreams.proofs.Openings.{below_changed}
-use Rattle.upstreams.proofs.Idling.{counted_given}
+use Rattle.upstreams.proofs.Idling.{idle_given}
 use Rattle.upstreams.proofs.upstreams.Upstreams.give.Goals as goal
 
 pub invariant_of-self-2 : goal.invariant_of-self-2
 invariant_of-self-2 c = record {
   apart = subst AreApart (sym c.in_ok-hold_rest.ensures.ok) (apart_with c.args.stream (unless_whole (stage_of c.args.rest) (Going c.args.k (stage_of c.args.rest))) (reverse c.self.inside.held.items) c.self.invariant.apart);
   below = subst (AreBelow (suc c.self.inside.count)) (sym c.give.ensures) (below_changed (given_at c.args.k c.args.stream c.new-answer.result) (λ x. refl) (suc c.self.inside.count) (reverse c.self.inside.connections.items) c.self.invariant.below);
-  few_idle = subst (AreCounted c.give.new.connections.items) (sym (c.idle_beside-self-inside.ensures ∙ ap (λ cs. idle_beside c.args.k (lives (reverse cs))) c.deref.ensures.value))
-      (counted_given c.self.inside.connections.items c.give.new.connections.items c.self.inside.idle c.self.invariant.few_idle c.args.k (suc c.self.inside.count) c.self.invariant.below c.args.stream c.new-answer.result c.give.ensures);
+  idle_are = c.strike.ensures
+      ∙ idle_given c.self.inside.connections.items c.give.new.connections.items c.self.inside.idle.items c.self.invariant.idle_are c.args.k (suc c.self.inside.count) c.self.invariant.below c.args.stream c.new-answer.result c.give.ensures;
 }

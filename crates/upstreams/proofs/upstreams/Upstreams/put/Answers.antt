@@ -3,12 +3,12 @@ use Rattle.std.specs.Prelude.{suc, reverse}
 use Rattle.upstreams.specs.Connections.{AreBelow}
 use Rattle.upstreams.specs.Connections.{put_at}
 use Rattle.upstreams.proofs.Openings.{below_changed}
-use Rattle.upstreams.proofs.Idling.{counted_same}
+use Rattle.upstreams.proofs.Idling.{idle_same}
 use Rattle.upstreams.proofs.upstreams.Upstreams.put.Goals as goal
 
 pub invariant_of-self : goal.invariant_of-self
 invariant_of-self c = record {
   apart = c.self.invariant.apart;
   below = subst (AreBelow (suc c.self.inside.count)) (sym c.put.ensures) (below_changed (put_at c.args.k c.args.count) (λ x. refl) (suc c.self.inside.count) (reverse c.self.inside.connections.items) c.self.invariant.below);
-  few_idle = counted_same c.self.inside.connections.items c.put.new.connections.items c.self.inside.idle c.self.invariant.few_idle (put_at c.args.k c.args.count) (λ x. refl) c.put.ensures;
+  idle_are = idle_same c.self.inside.connections.items c.put.new.connections.items c.self.inside.idle.items c.self.invariant.idle_are (put_at c.args.k c.args.count) (λ x. refl) c.put.ensures;
 }

@@ -1,0 +1,160 @@
+-- What a log notes of an exchange with an upstream, and what it tells of it.
+use Rattle.std.specs.Prelude.{◌≡◌, ◌≢◌, ℕ, ◌+◌, ◌-◌, ◌<◌, ◌^◌, ◌⊎◌, min, Bool, true, false, List, [], ◌∷◌, ◌++◌, All, length, codes, Option, Some, None, nat_lt, if◌then◌else◌, ◌||◌, MatchOption}
+use Rattle.std.specs.Ordering.{nat_cmp}
+use Rattle.std.specs.BTreeMap.{BTreeMap, get, IsUnchanged, Updates}
+use Rattle.std.specs.declared.time.Instant.{Instant}
+use Rattle.model.specs.Causes.{is_front_of}
+use Rattle.h1_reader.specs.Parts.{Part}
+use Rattle.h1_reader.specs.Parts.Part.{Final, Body}
+use Rattle.h1_reader.specs.Standing.{Stands, Hears, Breaks, IsEnd, is_done}
+use Rattle.h1_reader.specs.declared.reader.Ended.TheVariants as reader
+use Rattle.exchange_log.specs.declared.exchange.End.{End}
+use Rattle.exchange_log.specs.declared.exchange.End.TheVariants.{Whole, Refused, Reset, EndedEarly, NoResponse, Malformed, TooLong, GivenUp}
+use Rattle.exchange_log.specs.declared.exchange.Exchange.{Exchange}
+use Rattle.exchange_log.specs.declared.exchanges.Connection.{Connection}
+use Rattle.exchange_log.specs.declared.exchanges.Over.{Over}
+
+-- The line is what stands before the first carriage return, or all, where there is none (RFC 9112, section 3).
+pub record IsEnded (text line behind : List ℕ) : Type 0 where
+  pub is : text ≡ line ++ 13 ∷ behind
+  pub has_none : All (λ octet. octet ≢ 13) line
+
+abbrev pub IsLineOf : List ℕ → List ℕ → Type 0
+IsLineOf text line = ((behind : List ℕ) × IsEnded text line behind) ⊎ ((line ≡ text) × All (λ octet. octet ≢ 13) text)
+
+-- the status of the final head among parts of a response
+abbrev pub status_in : List Part → Option ℕ
+status_in [] = None
+status_in (Final head ∷ parts) = Some head.status
+status_in (part ∷ parts) = status_in parts
+
+-- how many octets of a body they have
+abbrev pub octets_in : List Part → ℕ
+octets_in [] = 0
+octets_in (Body octets ∷ parts) = length octets + octets_in parts
+octets_in (part ∷ parts) = octets_in parts
+
+-- more octets than these, where there is a most
+abbrev pub exceeds : Option ℕ → ℕ → Bool
+exceeds None count = false
+exceeds (Some most) count = nat_lt most count
+
+-- the first one, if there is one, and else the second
+abbrev pub first_of : Option ℕ → Option ℕ → Option ℕ
+first_of (Some status) other = Some status
+first_of None other = other
+
+-- An exchange that begins with this text, the whole head of a request: nothing came of its response, which has no body where the method is HEAD
+-- (RFC 9112, section 6.3).
+pub record Begins (text : List ℕ) (limit : Option ℕ) (now : Option Instant) (e : Exchange) : Type 0 where
+  pub line : IsLineOf text e.line.items
+  pub method : e.reader.to_head ≡ is_front_of (codes "HEAD ") e.line.items
+  pub sent : e.sent ≡ length text
+  pub is_taken : e.is_taken ≡ false
+  pub received : e.received ≡ 0
+  pub body : e.body ≡ 0
+  pub most : e.most ≡ limit
+  pub begun : e.begun ≡ now
+  pub status : e.status ≡ None
+  pub stands : Stands [] [] e.reader
+
+-- With these octets the response goes on: they tell parts of it, by which it is whole or isn't, and its body too long or not.
+pub record GoesOn (old : Exchange) (octets : List ℕ) (long done : Bool) (new : Exchange) : Type 0 where
+  pub added : List Part
+  pub hears : Hears old.reader octets added new.reader
+  pub ends : long ≡ false → is_done added ≡ done
+  pub body : new.body ≡ min (old.body + min (octets_in added) (2 ^ 64 - 1)) (2 ^ 64 - 1)
+  pub is_long : exceeds new.most new.body ≡ long
+  pub status : new.status ≡ first_of old.status (status_in added)
+
+-- They are counted, as far as 64 bits have it, and what was noted before stays.
+pub record Counts (old : Exchange) (octets : List ℕ) (new : Exchange) : Type 0 where
+  pub received : new.received ≡ min (old.received + length octets) (2 ^ 64 - 1)
+  pub sent : new.sent ≡ old.sent
+  pub is_taken : new.is_taken ≡ old.is_taken
+  pub line : new.line ≡ old.line
+  pub most : new.most ≡ old.most
+  pub begun : new.begun ≡ old.begun
+
+-- What octets that came make of an exchange: it goes on, or is over with a whole response, with one that is too long, or with something that isn't one.
+abbrev pub IsHeard : Exchange → List ℕ → Option End → Exchange → Type 0
+IsHeard old octets None new = Counts old octets new × GoesOn old octets false false new
+IsHeard old octets (Some Whole) new = Counts old octets new × GoesOn old octets false true new
+IsHeard old octets (Some TooLong) new = Counts old octets new × GoesOn old octets true false new
+IsHeard old octets (Some Malformed) new = Counts old octets new × Breaks old.reader octets × (new.status ≡ old.status)
+IsHeard old octets (Some end) new = ⊥
+
+-- How an exchange ends where the server ends the connection.
+abbrev pub IsEndedBy : Exchange → End → Type 0
+IsEndedBy e Whole = IsEnd reader.Complete e.reader
+IsEndedBy e NoResponse = IsEnd reader.Short e.reader × (e.received ≡ 0)
+IsEndedBy e EndedEarly = IsEnd reader.Short e.reader × (0 < e.received)
+IsEndedBy e end = ⊥
+
+-- how it ends where the connection fails
+abbrev pub end_by_failure : Exchange → End
+end_by_failure e = if e.is_taken || nat_lt 0 e.received then Reset else Refused
+
+-- ---- connections
+
+-- the exchange that is over where one of this route ends so, if there is one
+abbrev pub over_by : ℕ → End → Option Exchange → Option Over
+over_by route end None = None
+over_by route end (Some e) = Some (record { route = route; exchange = e; end = end })
+
+-- What octets that are put out make of a connection: its exchange goes on with them, or one begins.
+abbrev pub IsPutBy : Option Exchange → List ℕ → Option ℕ → Option Instant → Option Exchange → Type 0
+IsPutBy (Some e) text most now (Some e') = e' ≡ record e { sent = min (e.sent + length text) (2 ^ 64 - 1) }
+IsPutBy None text most now (Some e') = Begins text most now e'
+IsPutBy old text most now None = ⊥
+
+-- What octets that came make of it, and which exchange is over with them: those of an idle one belong to none.
+abbrev pub IsHeardBy : ℕ → Option Exchange → List ℕ → Option Over → Option Exchange → Type 0
+IsHeardBy route None octets over new = (over ≡ None) × (new ≡ None)
+IsHeardBy route (Some e) octets None new = (e' : Exchange) × (new ≡ Some e') × IsHeard e octets None e'
+IsHeardBy route (Some e) octets (Some over) new = (new ≡ None) × (over.route ≡ route) × IsHeard e octets (Some over.end) over.exchange
+
+-- how the exchange of a connection ends where the server ends that, if it has one
+abbrev pub IsEndOf : Option Exchange → End → Type 0
+IsEndOf None end = Unit {0}
+IsEndOf (Some e) end = IsEndedBy e end
+
+abbrev pub failure_of : Option Exchange → End
+failure_of None = Refused
+failure_of (Some e) = end_by_failure e
+
+-- those that are over, and one more, if it is
+abbrev pub and_over : List Over → Option Over → List Over
+and_over overs None = overs
+and_over overs (Some over) = overs ++ over ∷ []
+
+-- This becomes of the connection with this number, if it is open, and nothing of others.
+abbrev pub Becomes : ℕ → BTreeMap ℕ Connection → BTreeMap ℕ Connection → (Connection → Option Connection → Type 0) → Type 0
+Becomes k old new Is = MatchOption (get nat_cmp old k) (IsUnchanged old new) (λ c. (c' : Option Connection) × Updates nat_cmp old new k c' × Is c c')
+
+-- an exchange, if there is one, of which octets were taken
+abbrev pub taken_by : Option Exchange → Option Exchange
+taken_by None = None
+taken_by (Some e) = Some (record e { is_taken = true })
+
+-- a connection of which octets were taken
+abbrev pub taken : Connection → Connection
+taken c = record { route = c.route; exchange = taken_by c.exchange }
+
+-- Octets of the connection with this number came, if it is open: with them its exchange goes on, or is over and to be told.
+abbrev pub HeardAt : ℕ → List ℕ → BTreeMap ℕ Connection → BTreeMap ℕ Connection → List Over → List Over → Type 0
+HeardAt k octets old new overs overs' =
+    MatchOption (get nat_cmp old k) (IsUnchanged old new × (overs' ≡ overs))
+    (λ c. (c' : Connection) × (over : Option Over) × Updates nat_cmp old new k (Some c') × (overs' ≡ and_over overs over)
+    × (c'.route ≡ c.route) × IsHeardBy c.route c.exchange octets over c'.exchange)
+
+-- It is closed, if it is open, and its exchange, if it has one, is over with one of these ends, and to be told.
+abbrev pub EndedAt : ℕ → (Option Exchange → End → Type 0) → BTreeMap ℕ Connection → BTreeMap ℕ Connection → List Over → List Over → Type 0
+EndedAt k IsEnding old new overs overs' =
+    MatchOption (get nat_cmp old k) (IsUnchanged old new × (overs' ≡ overs))
+    (λ c. (end : End) × IsEnding c.exchange end × Updates nat_cmp old new k None × (overs' ≡ and_over overs (over_by c.route end c.exchange)))
+
+-- The first of these is closed, if there is one, and its exchange is given up, if it has one.
+abbrev pub ClosesFirst : Bool → List (ℕ × Connection) → List (ℕ × Connection) → List Over → List Over → Type 0
+ClosesFirst true old new overs overs' = (k : ℕ) × (c : Connection) × (old ≡ (k, c) ∷ new) × (overs' ≡ and_over overs (over_by c.route GivenUp c.exchange))
+ClosesFirst false old new overs overs' = (old ≡ []) × (new ≡ []) × (overs' ≡ overs)

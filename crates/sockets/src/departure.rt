@@ -1,0 +1,106 @@
+//! A client that is being left.
+
+ghost use Rattle.std.specs.Prelude.{◌≡◌};
+ghost use Rattle.sockets.specs.Departing.{departing};
+ghost use Rattle.sockets.specs.Sides.{lost_news, noted, Goes};
+
+use crate::buffer::Buffer;
+use crate::leaving::Leaving;
+use crate::side::Side;
+use crate::wire::Wire;
+use mio::Registry;
+use mio::event::Event as Report;
+use std::alloc::Global;
+use std::io;
+use std::time::{Clock, Duration, Instant};
+
+/// A client that is being left beside others: its socket, and how long it is waited for.
+#[derive(Drop)]
+pub struct Departure<S> {
+    client: Side<S>,
+    leaving: Leaving,
+}
+
+impl<S: Wire> Departure<S> {
+    /// A client begins to be left now.
+    pub fn begin(client: Side<S>, now: Instant) -> Departure<S>
+        ensures { result ≡ departing now client }
+    {
+        let leaving = Leaving::begin(now, client.waiting());
+        Departure { client, leaving }
+    }
+
+    /// Notes what was reported of its socket.
+    pub fn hear(&mut self, report: &Report)
+        ensures { self.new ≡ record self.old { client = noted report.now self.old.client } }
+    {
+        self.client.note(report);
+    }
+
+    /// Goes on without waiting: writes what its socket takes of what waits for it, tells it that nothing more is written once nothing waits, and reads and drops what is there, in one
+    /// read. The answer is how long it is waited for yet, where nothing is reported of it, or nothing where it is left: its end was read behind all, or it was
+    /// waited for long enough. An error is the socket's or the clock's, or says that memory was refused: then it is left too.
+    pub fn go_on<C: Clock>(
+        &mut self,
+        alloc: Global,
+        clock: &C,
+        registry: &Registry,
+        buffer: &mut Buffer,
+    ) -> io::Result<Option<Duration>>
+        ensures { Goes S.left S.held lost_news self.old.client self.new.client }
+    {
+        if write_rest(
+            &mut self.client,
+            &mut self.leaving,
+            registry,
+            Instant::now(clock)?,
+        )? {
+            return Ok(None);
+        }
+        let Some(most) = self.leaving.remaining(Instant::now(clock)?) else {
+            return Ok(None);
+        };
+        if !self.client.is_readable() {
+            return Ok(Some(most));
+        }
+        drop_piece(alloc, clock, &mut self.client, &mut self.leaving, buffer)?;
+        Ok(Some(Duration::ZERO))
+    }
+}
+
+/// Reads and drops what is there of a client, in one read.
+pub fn drop_piece<S: Wire, C: Clock>(
+    alloc: Global,
+    clock: &C,
+    client: &mut Side<S>,
+    leaving: &mut Leaving,
+    buffer: &mut Buffer,
+) -> io::Result<()>
+    ensures { Goes S.left S.held lost_news client.old client.new }
+{
+    let _ = buffer.read(alloc, client)?;
+    leaving.note_heard(Instant::now(clock)?);
+    Ok(())
+}
+
+/// Writes what a client's socket takes of what waits for it, and tells it that nothing more is written once nothing waits. The answer is whether it is left: all is written,
+/// and its end was read.
+pub fn write_rest<S: Wire>(
+    client: &mut Side<S>,
+    leaving: &mut Leaving,
+    registry: &Registry,
+    now: Instant,
+) -> io::Result<bool>
+    ensures { Goes S.left S.held lost_news client.old client.new }
+{
+    client.flush(registry)?;
+    leaving.note_waiting(now, client.waiting());
+    if client.waiting() > 0 {
+        return Ok(false);
+    }
+    if client.is_ended() {
+        return Ok(true);
+    }
+    client.shut()?;
+    Ok(false)
+}

@@ -8,7 +8,7 @@ use Rattle.model.specs.Messages.{Request}
 use Rattle.model.specs.Octets.{some_of, is_token_octet, is_value, lower}
 use Rattle.model.specs.Http1.{Line, crlf, Head, is_target, H1Head, values_of, is_close, asks_to_close, AreRequests, BeginsNoRequest, forward}
 use Rattle.model.specs.Http2.{H2Request}
-use Rattle.model.specs.Logs.Event.{UpEnd}
+use Rattle.model.specs.Logs.Event.{UpEnd, UpFailed}
 use Rattle.model.specs.Logs.Act.{Open, ToUp, Close}
 use Rattle.model.specs.Tapes.{Entry}
 use Rattle.model.specs.Tapes.Entry.{Happened, Did}
@@ -21,6 +21,7 @@ use Rattle.model.specs.Courses.{items}
 use Rattle.model.specs.RequestClause.{RequestsHold}
 use Rattle.model.specs.ProgressClause.{was_cut, AllForwarded}
 use Rattle.model.specs.Headline.{ClausesHold, HoldsInTurn}
+use Rattle.model.specs.Known.{Known}
 use Rattle.model.proofs.Http1Readings.{one_head}
 use Rattle.model_examples.proofs.RowTapes.{by_whole, by_streaming, frame, plain, headed, field, get, get_block, post, post_block, begun, got, reset}
 use Rattle.model_examples.proofs.RequestRefusals.{five, five_block, five_text, invents}
@@ -44,6 +45,11 @@ expecting = headed (frame 1 5 1 (get_block ++ expect_octets)) (get ++ field (cod
 pub opens_for_answered : RequestsHold by_whole (Did (Open 1 0) ∷ expecting ∷ begun) → ⊥
 unfolding total_size
 opens_for_answered c = let may = c.in_time.0 in let clash : ◌≡◌ {A = Option Cause} (Some Expects) None = may.no_cause in cc
+
+-- It opens another for a request whose connection failed, and sends it again, however it is set up.
+pub sends_again : (setup : Known) → RequestsHold setup (Did (ToUp 2 first.text) ∷ Did (Open 2 0) ∷ Happened (UpFailed 1) ∷ Did (ToUp 1 first.text) ∷ Did (Open 1 0) ∷ headed (frame 1 5 1 get_block) get ∷ begun) → ⊥
+unfolding total_size
+sends_again setup c = c.apart.0.0 refl
 
 -- It opens one though the frame ends the connection: CONTINUATION outside a header block.
 pub opens_at_the_end : RequestsHold by_whole (Did (Open 1 0) ∷ plain (frame 9 4 1 []) ∷ headed (frame 1 5 1 get_block) get ∷ begun) → ⊥

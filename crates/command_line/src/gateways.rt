@@ -21,9 +21,10 @@ const TURNS: &str = "The most turns of one connection";
 const CLIENTS: &str = "How many connections are served at once, 1 to 1024 [default: 1]";
 
 const IDLE: &str =
-    "For how long a client may neither say nor take anything; 0 is for ever [default: 0]";
+    "For how many seconds a client may neither say nor take anything; 0 is for ever [default: 0]";
 
-const LOG: &str = "Writes a line on standard error for each connection";
+const LOG: &str =
+    "Writes a line on standard error for each exchange with a server and for each connection";
 
 /// How many connections may be served at once.
 const CLIENTS_RANGE: Range = Range {
@@ -54,7 +55,7 @@ pub struct GatewayWords {
     pub clients: u32,
     /// For how many seconds a client may neither say nor take anything; 0 is for ever.
     pub idle: u32,
-    /// Connections are told of on standard error.
+    /// Exchanges with servers and connections are told of on standard error.
     pub is_logged: bool,
 }
 

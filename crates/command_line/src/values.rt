@@ -12,8 +12,11 @@ use std::alloc::Global;
 /// Which numbers a value may be, and which it is where it is left out.
 #[derive(Clone, Copy)]
 pub struct Range {
+    /// The least that it may be.
     pub least: u32,
+    /// The most that it may be.
     pub most: u32,
+    /// What it is where it is left out.
     pub absent: u32,
 }
 

@@ -17,9 +17,9 @@ pub enum Word {
     Script,
     /// `--clients N`: how many connections are served at once.
     Clients,
-    /// `--idle SECONDS`: how long a client may neither say nor take anything.
+    /// `--idle SECONDS`: for how many seconds a client may neither say nor take anything.
     Idle,
-    /// `--log`: whether connections are told of.
+    /// `--log`: whether exchanges with servers and connections are told of.
     Log,
 }
 

@@ -1,16 +1,25 @@
 -- Pieces of a response: whether they are whole, and the status of the final head among them.
-use Rattle.std.proofs.Common.{◌≡◌, ℕ, zero, suc, ◌+◌, ◌-◌, ◌^◌, ◌<◌, min, ◌||◌, List, [], ◌∷◌, ◌++◌, length, take, get_or, Some, None, refl, sym, ◌∙◌, ap, add-one, arith}
+use Rattle.std.proofs.Common.{◌≡◌, ℕ, zero, suc, ◌+◌, ◌-◌, ◌^◌, ◌<◌, min, ◌||◌, List, [], ◌∷◌, ◌++◌, length, length-append, take, get_or, Option, Some, None, refl, sym, ◌∙◌, ap, add-one, arith}
 use Rattle.std.proofs.Math.Seq.{take-suc}
 use Rattle.std.specs.List.{list_any}
+use Rattle.std.specs.Option.{option_or, option_map}
 use Rattle.std.proofs.lemmas.List.{map-append}
 use Rattle.h1_reader.specs.Parts.{Part}
 use Rattle.h1_reader.specs.Parts.Part.{Interim, Final, Body, Trailing, Done}
+use Rattle.h1_reader.specs.Told.{head_of, body_of}
 use Rattle.h1_reader.specs.Views.{part_of, parts_of}
 use Rattle.h1_reader.specs.Standing.{is_end, is_done}
 use Rattle.h1_reader.specs.declared.piece.Piece.{Piece}
 use Rattle.h1_reader.specs.declared.piece.Piece.TheVariants as piece
+use Rattle.h1_reader.proofs.ToldLaws.{body_more}
 use Rattle.model.specs.ResponseHeads.{Head}
-use Rattle.exchange_log.specs.Exchanges.{status_in, first_of, octets_in}
+
+-- the status of the final head among parts, and how many octets of a body they have
+abbrev pub status_in : List Part → Option ℕ
+status_in parts = option_map (λ (head : Head). head.status) (head_of parts)
+
+abbrev pub octets_in : List Part → ℕ
+octets_in parts = length (body_of parts)
 
 -- one of them is the last
 pub any_is_done : (pieces : List Piece) → list_any (λ piece. is_end (part_of piece)) pieces ≡ is_done (parts_of pieces)
@@ -18,7 +27,7 @@ any_is_done [] = refl
 any_is_done (p ∷ pieces) = ap (λ b. is_end (part_of p) || b) (any_is_done pieces)
 
 -- the status of parts and further ones
-pub status_append : (front back : List Part) → status_in (front ++ back) ≡ first_of (status_in front) (status_in back)
+pub status_append : (front back : List Part) → status_in (front ++ back) ≡ option_or (status_in front) (status_in back)
 status_append [] back = refl
 status_append (Interim head ∷ parts) back = status_append parts back
 status_append (Final head ∷ parts) back = refl
@@ -38,7 +47,7 @@ pub none_more : (pieces : List Piece) (i : ℕ) (p : Piece) → i < length piece
 none_more pieces i p less at before here =
     ap status_in (parts_next pieces i p less at)
     ∙ status_append (parts_of (take i pieces)) (part_of p ∷ [])
-    ∙ ap (λ s. first_of s (status_in (part_of p ∷ []))) before
+    ∙ ap (λ s. option_or s (status_in (part_of p ∷ []))) before
     ∙ here
 
 -- one behind those has it
@@ -63,12 +72,7 @@ no_head piece.Done other = refl
 
 -- those of parts and of further ones
 pub octets_append : (front back : List Part) → octets_in (front ++ back) ≡ octets_in front + octets_in back
-octets_append [] back = grind arith
-octets_append (Interim head ∷ parts) back = octets_append parts back
-octets_append (Final head ∷ parts) back = octets_append parts back
-octets_append (Body octets ∷ parts) back = ap (λ n. length octets + n) (octets_append parts back) ∙ grind arith
-octets_append (Trailing fields ∷ parts) back = octets_append parts back
-octets_append (Done ∷ parts) back = octets_append parts back
+octets_append front back = ap length (body_more front back) ∙ length-append (body_of front) (body_of back)
 
 -- a count goes on, as far as it can
 pub counted_on : (front more : ℕ) → min (min front (2 ^ 64 - 1) + more) (2 ^ 64 - 1) ≡ min (front + more) (2 ^ 64 - 1)

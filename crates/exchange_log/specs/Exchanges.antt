@@ -1,12 +1,13 @@
 -- What a log notes of an exchange with an upstream, and what it tells of it.
 use Rattle.std.specs.Prelude.{◌≡◌, ◌≢◌, ℕ, ◌+◌, ◌-◌, ◌<◌, ◌^◌, ◌⊎◌, min, Bool, true, false, List, [], ◌∷◌, ◌++◌, All, length, codes, Option, Some, None, nat_lt, if◌then◌else◌, ◌||◌, MatchOption}
+use Rattle.std.specs.Option.{option_or, option_map}
 use Rattle.std.specs.Ordering.{nat_cmp}
 use Rattle.std.specs.BTreeMap.{BTreeMap, get, IsUnchanged, Updates}
 use Rattle.std.specs.declared.time.Instant.{Instant}
 use Rattle.model.specs.Causes.{is_front_of}
 use Rattle.h1_reader.specs.Parts.{Part}
-use Rattle.h1_reader.specs.Parts.Part.{Final, Body}
 use Rattle.h1_reader.specs.Standing.{Stands, Hears, Breaks, IsEnd, is_done}
+use Rattle.h1_reader.specs.Told.{head_of, body_of}
 use Rattle.h1_reader.specs.declared.reader.Ended.TheVariants as reader
 use Rattle.exchange_log.specs.declared.exchange.End.{End}
 use Rattle.exchange_log.specs.declared.exchange.End.TheVariants.{Whole, Refused, Reset, EndedEarly, NoResponse, Malformed, TooLong, GivenUp}
@@ -21,28 +22,6 @@ pub record IsEnded (text line behind : List ℕ) : Type 0 where
 
 abbrev pub IsLineOf : List ℕ → List ℕ → Type 0
 IsLineOf text line = ((behind : List ℕ) × IsEnded text line behind) ⊎ ((line ≡ text) × All (λ octet. octet ≢ 13) text)
-
--- the status of the final head among parts of a response
-abbrev pub status_in : List Part → Option ℕ
-status_in [] = None
-status_in (Final head ∷ parts) = Some head.status
-status_in (part ∷ parts) = status_in parts
-
--- how many octets of a body they have
-abbrev pub octets_in : List Part → ℕ
-octets_in [] = 0
-octets_in (Body octets ∷ parts) = length octets + octets_in parts
-octets_in (part ∷ parts) = octets_in parts
-
--- more octets than these, where there is a most
-abbrev pub exceeds : Option ℕ → ℕ → Bool
-exceeds None count = false
-exceeds (Some most) count = nat_lt most count
-
--- the first one, if there is one, and else the second
-abbrev pub first_of : Option ℕ → Option ℕ → Option ℕ
-first_of (Some status) other = Some status
-first_of None other = other
 
 -- An exchange that begins with this text, the whole head of a request: nothing came of its response, which has no body where the method is HEAD
 -- (RFC 9112, section 6.3).
@@ -63,9 +42,9 @@ pub record GoesOn (old : Exchange) (octets : List ℕ) (long done : Bool) (new :
   pub added : List Part
   pub hears : Hears old.reader octets added new.reader
   pub ends : long ≡ false → is_done added ≡ done
-  pub body : new.body ≡ min (old.body + min (octets_in added) (2 ^ 64 - 1)) (2 ^ 64 - 1)
-  pub is_long : exceeds new.most new.body ≡ long
-  pub status : new.status ≡ first_of old.status (status_in added)
+  pub body : new.body ≡ min (old.body + min (length (body_of added)) (2 ^ 64 - 1)) (2 ^ 64 - 1)
+  pub is_long : MatchOption new.most (long ≡ false) (λ most. long ≡ nat_lt most new.body)
+  pub status : new.status ≡ option_or old.status (option_map (λ head. head.status) (head_of added))
 
 -- They are counted, as far as 64 bits have it, and what was noted before stays.
 pub record Counts (old : Exchange) (octets : List ℕ) (new : Exchange) : Type 0 where
@@ -114,15 +93,6 @@ IsHeardBy route None octets over new = (over ≡ None) × (new ≡ None)
 IsHeardBy route (Some e) octets None new = (e' : Exchange) × (new ≡ Some e') × IsHeard e octets None e'
 IsHeardBy route (Some e) octets (Some over) new = (new ≡ None) × (over.route ≡ route) × IsHeard e octets (Some over.end) over.exchange
 
--- how the exchange of a connection ends where the server ends that, if it has one
-abbrev pub IsEndOf : Option Exchange → End → Type 0
-IsEndOf None end = Unit {0}
-IsEndOf (Some e) end = IsEndedBy e end
-
-abbrev pub failure_of : Option Exchange → End
-failure_of None = Refused
-failure_of (Some e) = end_by_failure e
-
 -- those that are over, and one more, if it is
 abbrev pub and_over : List Over → Option Over → List Over
 and_over overs None = overs
@@ -149,12 +119,13 @@ HeardAt k octets old new overs overs' =
     × (c'.route ≡ c.route) × IsHeardBy c.route c.exchange octets over c'.exchange)
 
 -- It is closed, if it is open, and its exchange, if it has one, is over with one of these ends, and to be told.
-abbrev pub EndedAt : ℕ → (Option Exchange → End → Type 0) → BTreeMap ℕ Connection → BTreeMap ℕ Connection → List Over → List Over → Type 0
+abbrev pub EndedAt : ℕ → (Exchange → End → Type 0) → BTreeMap ℕ Connection → BTreeMap ℕ Connection → List Over → List Over → Type 0
 EndedAt k IsEnding old new overs overs' =
     MatchOption (get nat_cmp old k) (IsUnchanged old new × (overs' ≡ overs))
-    (λ c. (end : End) × IsEnding c.exchange end × Updates nat_cmp old new k None × (overs' ≡ and_over overs (over_by c.route end c.exchange)))
+    (λ c. Updates nat_cmp old new k None × MatchOption c.exchange (overs' ≡ overs)
+    (λ e. (end : End) × IsEnding e end × (overs' ≡ overs ++ record { route = c.route; exchange = e; end = end } ∷ [])))
 
--- The first of these is closed, if there is one, and its exchange is given up, if it has one.
-abbrev pub ClosesFirst : Bool → List (ℕ × Connection) → List (ℕ × Connection) → List Over → List Over → Type 0
-ClosesFirst true old new overs overs' = (k : ℕ) × (c : Connection) × (old ≡ (k, c) ∷ new) × (overs' ≡ and_over overs (over_by c.route GivenUp c.exchange))
-ClosesFirst false old new overs overs' = (old ≡ []) × (new ≡ []) × (overs' ≡ overs)
+-- those that are over once these connections are closed in turn: the exchange of each is given up, if it has one
+abbrev pub all_given_up : List Over → List (ℕ × Connection) → List Over
+all_given_up overs [] = overs
+all_given_up overs (entry ∷ entries) = all_given_up (and_over overs (over_by entry.1.route GivenUp entry.1.exchange)) entries

@@ -1,11 +1,13 @@
 //! An exchange with an upstream, as far as it went.
 
-ghost use Rattle.std.specs.Prelude.{◌≡◌, ◌≢◌, ◌+◌, ◌-◌, ◌^◌, All, MatchOption, min, true, length, codes, [], ◌∷◌, IfOk};
+ghost use Rattle.std.specs.Prelude.{◌≡◌, ◌≢◌, ◌+◌, ◌-◌, ◌^◌, All, MatchOption, min, true, false, nat_lt, length, codes, [], ◌∷◌, IfOk};
 ghost use Rattle.std.specs.List.{list_any};
+ghost use Rattle.std.specs.Option.{option_map};
 ghost use Rattle.model.specs.Causes.{is_front_of};
 ghost use Rattle.h1_reader.specs.Standing.{is_done, is_end};
+ghost use Rattle.h1_reader.specs.Told.{head_of, body_of};
 ghost use Rattle.h1_reader.specs.Views.{part_of, parts_of};
-ghost use Rattle.exchange_log.specs.Exchanges.{IsEnded, IsLineOf, Begins, IsHeard, IsEndedBy, status_in, octets_in, exceeds, end_by_failure};
+ghost use Rattle.exchange_log.specs.Exchanges.{IsEnded, IsLineOf, Begins, IsHeard, IsEndedBy, end_by_failure};
 
 use h1_reader::{Ended, Piece, Reader, ResponseFault};
 use std::alloc::{AllocError, Global};
@@ -28,7 +30,7 @@ pub enum End {
     Malformed,
     /// What came is longer than a response that is passed on whole may be.
     TooLong,
-    /// The gateway closed the connection: the client gave the request up, or went.
+    /// The gateway closed the connection before the exchange was over: the client gave the request up, or went, its request was refused, or serving it ended.
     GivenUp,
 }
 
@@ -82,7 +84,7 @@ fn asks_for_head(line: &[u8]) -> bool
 
 /// The status of the final head among pieces, if there is one.
 fn status_in(pieces: &[Piece]) -> Option<u16>
-    ensures { result ≡ status_in (parts_of pieces.now) }
+    ensures { result ≡ option_map (λ head. head.status) (head_of (parts_of pieces.now)) }
 {
     for piece in pieces {
         if let Piece::Head(head) = piece {
@@ -94,7 +96,7 @@ fn status_in(pieces: &[Piece]) -> Option<u16>
 
 /// How many octets of a body a piece has.
 fn octets_of(piece: &Piece) -> u64
-    ensures { result ≡ octets_in (part_of piece.now ∷ []) }
+    ensures { result ≡ length (body_of (part_of piece.now ∷ [])) }
 {
     match piece {
         Piece::Body(octets) => octets.len() as u64,
@@ -104,7 +106,7 @@ fn octets_of(piece: &Piece) -> u64
 
 /// How many octets of a body pieces have, as far as 64 bits count them.
 fn octets_in(pieces: &[Piece]) -> u64
-    ensures { result ≡ min (octets_in (parts_of pieces.now)) (2 ^ 64 - 1) }
+    ensures { result ≡ min (length (body_of (parts_of pieces.now))) (2 ^ 64 - 1) }
 {
     let mut count: u64 = 0;
     for piece in pieces {
@@ -209,16 +211,10 @@ impl Exchange {
         let mut pieces = Vec::new(alloc);
         match self.reader.feed(octets, &mut pieces) {
             Ok(_) => {}
-            Err(fault) => {
-                if fault == ResponseFault::Memory {
-                    return Err(AllocError);
-                }
-                return Ok(Some(End::Malformed));
-            }
+            Err(ResponseFault::Memory) => return Err(AllocError),
+            Err(_) => return Ok(Some(End::Malformed)),
         }
-        if self.status.is_none() {
-            self.status = status_in(&pieces);
-        }
+        self.status = self.status.or(status_in(&pieces));
         self.body = self.body.saturating_add(octets_in(&pieces));
         if self.is_too_long() {
             return Ok(Some(End::TooLong));
@@ -231,12 +227,9 @@ impl Exchange {
 
     /// Whether the body has more octets than it may.
     fn is_too_long(&self) -> bool
-        ensures { result ≡ exceeds self.now.most self.now.body }
+        ensures { MatchOption self.now.most (result ≡ false) (λ most. result ≡ nat_lt most self.now.body) }
     {
-        match self.most {
-            Some(most) => self.body > most,
-            None => false,
-        }
+        self.most.is_some_and(|most| self.body > most)
     }
 
     /// How it ends where the server ends the connection.

@@ -1,9 +1,9 @@
 //! The exchanges of one client's connections to upstreams.
 
-ghost use Rattle.std.specs.Prelude.{◌≡◌, Some, None, [], ◌∷◌, ◌++◌, MatchOption, OnOk, IfOk};
+ghost use Rattle.std.specs.Prelude.{◌≡◌, Some, None, [], ◌∷◌, ◌++◌, MatchOption, OnOk, IfOk, is_none, false};
 ghost use Rattle.std.specs.Ordering.{nat_cmp};
-ghost use Rattle.std.specs.BTreeMap.{Updates};
-ghost use Rattle.exchange_log.specs.Exchanges.{IsPutBy, IsHeardBy, IsEndOf, Becomes, HeardAt, EndedAt, ClosesFirst, and_over, over_by, failure_of, taken};
+ghost use Rattle.std.specs.BTreeMap.{Updates, get};
+ghost use Rattle.exchange_log.specs.Exchanges.{IsPutBy, IsHeardBy, IsEndedBy, Becomes, HeardAt, EndedAt, and_over, over_by, all_given_up, end_by_failure, taken};
 
 use crate::exchange::{End, Exchange};
 use std::alloc::{AllocError, Global};
@@ -22,7 +22,9 @@ pub struct Connection {
 pub struct Over {
     /// The place of its route, from 0.
     pub route: u32,
+    /// As far as it went.
     pub exchange: Exchange,
+    /// How it ended.
     pub end: End,
 }
 
@@ -91,26 +93,6 @@ impl Connection {
             None => Ok(None),
         }
     }
-
-    /// How its exchange ends where the server ends the connection.
-    fn end(&self) -> End
-        ensures { IsEndOf self.now.exchange result }
-    {
-        match &self.exchange {
-            Some(exchange) => exchange.end(),
-            None => End::NoResponse,
-        }
-    }
-
-    /// How its exchange ends where the connection fails.
-    fn fail(&self) -> End
-        ensures { result ≡ failure_of self.now.exchange }
-    {
-        match &self.exchange {
-            Some(exchange) => exchange.fail(),
-            None => End::Refused,
-        }
-    }
 }
 
 impl Exchanges {
@@ -137,6 +119,16 @@ impl Exchanges {
         };
         self.connections.insert(k, connection)?;
         Ok(())
+    }
+
+    /// Whether a connection is open and idle: octets that are put out for it begin an exchange.
+    pub fn is_idle(&self, k: u32) -> bool
+        ensures { MatchOption (get nat_cmp self.now.connections k) (result ≡ false) (λ c. result ≡ is_none c.exchange) }
+    {
+        match self.connections.get(&k) {
+            Some(connection) => connection.exchange.is_none(),
+            None => false,
+        }
     }
 
     /// Octets are put out for a connection: its exchange goes on with them, or one begins, with the whole head of a request, now, where a clock told that. An `Err` says that memory was refused.
@@ -175,42 +167,85 @@ impl Exchanges {
 
     /// An upstream ended its connection. An `Err` says that memory was refused.
     pub fn end(&mut self, k: u32) -> Result<(), AllocError>
-        ensures { OnOk result (EndedAt k IsEndOf self.old.connections self.new.connections self.old.over.items self.new.over.items) }
+        ensures { OnOk result (EndedAt k IsEndedBy self.old.connections self.new.connections self.old.over.items self.new.over.items) }
     {
-        let Some(connection) = self.connections.remove(&k) else {
+        let Some(
+            Connection {
+                route,
+                exchange: Some(exchange),
+            },
+        ) = self.connections.remove(&k)
+        else {
             return Ok(());
         };
-        let end = connection.end();
-        self.finish(connection, end)
+        let end = exchange.end();
+        self.tell(Over {
+            route,
+            exchange,
+            end,
+        })
     }
 
     /// A connection failed. An `Err` says that memory was refused.
     pub fn fail(&mut self, k: u32) -> Result<(), AllocError>
-        ensures { OnOk result (EndedAt k (λ exchange end. end ≡ failure_of exchange) self.old.connections self.new.connections self.old.over.items self.new.over.items) }
+        ensures { OnOk result (EndedAt k (λ exchange end. end ≡ end_by_failure exchange) self.old.connections self.new.connections self.old.over.items self.new.over.items) }
     {
-        let Some(connection) = self.connections.remove(&k) else {
+        let Some(
+            Connection {
+                route,
+                exchange: Some(exchange),
+            },
+        ) = self.connections.remove(&k)
+        else {
             return Ok(());
         };
-        let end = connection.fail();
-        self.finish(connection, end)
+        let end = exchange.fail();
+        self.tell(Over {
+            route,
+            exchange,
+            end,
+        })
     }
 
-    /// The gateway closes a connection, whose exchange ends so, if it has one. An `Err` says that memory was refused.
-    pub fn close(&mut self, k: u32, end: End) -> Result<(), AllocError>
-        ensures { OnOk result (EndedAt k (λ _ its. its ≡ end) self.old.connections self.new.connections self.old.over.items self.new.over.items) }
+    /// The gateway closes a connection, whose exchange is given up, if it has one. An `Err` says that memory was refused.
+    pub fn close(&mut self, k: u32) -> Result<(), AllocError>
+        ensures { OnOk result (EndedAt k (λ _ end. end ≡ End.GivenUp) self.old.connections self.new.connections self.old.over.items self.new.over.items) }
     {
-        match self.connections.remove(&k) {
-            Some(connection) => self.finish(connection, end),
-            None => Ok(()),
-        }
+        let Some(
+            Connection {
+                route,
+                exchange: Some(exchange),
+            },
+        ) = self.connections.remove(&k)
+        else {
+            return Ok(());
+        };
+        let end = End::GivenUp;
+        self.tell(Over {
+            route,
+            exchange,
+            end,
+        })
     }
 
-    /// The exchange of a connection that is closed is over, if there is one.
-    fn finish(&mut self, mut connection: Connection, end: End) -> Result<(), AllocError>
-        ensures over { OnOk result (self.new.over.items ≡ and_over self.old.over.items (over_by connection.route end connection.exchange)) }
+    /// All open connections are closed, in the order of their numbers, and the exchange of each is given up, if it has one. An `Err` says that memory was
+    /// refused.
+    pub fn close_all(&mut self) -> Result<(), AllocError>
+        ensures connections { OnOk result (self.new.connections.entries ≡ []) }
+        ensures over { OnOk result (self.new.over.items ≡ all_given_up self.old.over.items self.old.connections.entries) }
+    {
+        while let Some((_, connection)) = self.connections.pop_first() {
+            self.give_up(connection)?;
+        }
+        Ok(())
+    }
+
+    /// The exchange of a connection that is closed is given up, if there is one.
+    fn give_up(&mut self, mut connection: Connection) -> Result<(), AllocError>
+        ensures over { OnOk result (self.new.over.items ≡ and_over self.old.over.items (over_by connection.route End.GivenUp connection.exchange)) }
         ensures connections { self.new.connections ≡ self.old.connections }
     {
-        match connection.finish(end) {
+        match connection.finish(End::GivenUp) {
             Some(over) => self.tell(over),
             None => Ok(()),
         }
@@ -221,24 +256,8 @@ impl Exchanges {
         ensures over { OnOk result (self.new.over.items ≡ self.old.over.items ++ over ∷ []) }
         ensures connections { self.new.connections ≡ self.old.connections }
     {
-        match self.over.push_back(over) {
-            Ok(()) => Ok(()),
-            Err(_) => Err(AllocError),
-        }
-    }
-
-    /// The connection that was opened first of those that are open is closed, and its exchange is given up, if it has one. The answer is whether there was one. An
-    /// `Err` says that memory was refused.
-    pub fn close_first(&mut self) -> Result<bool, AllocError>
-        ensures { IfOk result (λ was. ClosesFirst was self.old.connections.entries self.new.connections.entries self.old.over.items self.new.over.items) }
-    {
-        match self.connections.pop_first() {
-            Some((_, connection)) => {
-                self.finish(connection, End::GivenUp)?;
-                Ok(true)
-            }
-            None => Ok(false),
-        }
+        self.over.push_back(over)?;
+        Ok(())
     }
 
     /// The exchange that was over first of those that weren't told yet.

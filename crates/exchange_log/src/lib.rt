@@ -1,11 +1,9 @@
 //! What a log says of the exchanges with upstreams: the octets that go out on each connection and those that come are noted, and once an exchange is over it
-//! is told.
+//! is told. Tests stand in `clients_tests`.
 #![tactic(auto)]
 
 mod exchange;
 mod exchanges;
-#[cfg(test)]
-mod tests;
 
 pub use exchange::{End, Exchange};
 pub use exchanges::{Exchanges, Over};

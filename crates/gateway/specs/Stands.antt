@@ -1,5 +1,5 @@
 -- Where a gateway stands: for which log, and behind which moves by the rule.
-use Rattle.std.specs.Prelude.{◌≡◌, ℕ, Bool, true, false, ◌&&◌, if◌then◌else◌, List, [], ◌∷◌, ◌++◌}
+use Rattle.std.specs.Prelude.{◌≡◌, ℕ, Bool, true, false, ◌&&◌, if◌then◌else◌, List, [], ◌∷◌, ◌++◌, length}
 use Rattle.model.specs.Octets.{IsFront, IsStrictFront}
 use Rattle.model.specs.Frames.{Reading, preface, settings_frame}
 use Rattle.model.specs.Logs.{Event, Output, Step, client_in}
@@ -33,7 +33,7 @@ IsStart text start.Wrong = IsNoPreface text
 -- ---- what a gateway is seen as
 
 -- By what requests are judged, how bodies are passed on, and whether connections to upstreams are kept; how far the connection is; the octets of the client
--- that aren't read; and what is kept.
+-- that aren't read; what is kept; and how many streams the client had opened when that was let go of.
 pub record Standing : Type 0 where
   pub routes : List Route
   pub max_body : ℕ
@@ -42,6 +42,7 @@ pub record Standing : Type 0 where
   pub phase : Phase
   pub partial : List ℕ
   pub kept : View
+  pub opened : ℕ
 
 -- It serves by this setup.
 pub record Serves (setup : Setup) (g : Standing) : Type 0 where
@@ -71,6 +72,10 @@ admits g event = is_open g.phase && steps.admits g.kept event
 -- how many octets of an upstream may come in one event, as far as it tells
 abbrev pub room_of : Standing → ℕ → ℕ
 room_of g k = if is_open g.phase then steps.room_on g.kept k else 0
+
+-- how many streams the client opened
+abbrev pub opened_in : Standing → ℕ
+opened_in g = if is_open g.phase then length g.kept.inbound.rows else g.opened
 
 -- ---- where it stands
 

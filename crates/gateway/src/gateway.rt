@@ -24,7 +24,7 @@ ghost use Rattle.holding.specs.Held.{IsSmall, held_in as held_in_rooms};
 ghost use Rattle.gateway.specs.Held.{IsHeldWithin, held_in};
 ghost use Rattle.gateway.specs.Rooms.{TellsRoom, AreRooms, room_in, rooms_in, turns, fails};
 ghost use Rattle.gateway.specs.Setups.{setup_of, IsServable};
-ghost use Rattle.gateway.specs.Stands.{IsFresh, Serves, Stands, StandsNext, admits, room_of, is_dead, is_open};
+ghost use Rattle.gateway.specs.Stands.{IsFresh, Serves, Stands, StandsNext, admits, room_of, opened_in, is_dead, is_open};
 ghost use Rattle.gateway.specs.Receiving.{Receives, ReadsOn, Happens, Greets, KeepsTerms, IsSettledIf, is_begun};
 
 use crate::config::Config;
@@ -150,6 +150,8 @@ pub struct Gateway {
     phase: Phase,
     partial: Vec<u8>,
     rooms: Rooms,
+    /// How many streams the client had opened when all that is kept was let go of.
+    opened: u32,
 }
 
 impl Model for Gateway {
@@ -158,7 +160,7 @@ impl Model for Gateway {
     ghost Value = { Standing };
 
     // Each field is named, so that what one more holds has to be said here.
-    ghost view = { λ record { alloc = alloc; routes = routes; max_body = max_body; passing = passing; keep = keep; phase = phase; partial = partial; rooms = rooms }. record { routes = routes.items; max_body = max_body; passing = passing; keep = keep; phase = phase; partial = partial.items; kept = rooms } };
+    ghost view = { λ record { alloc = alloc; routes = routes; max_body = max_body; passing = passing; keep = keep; phase = phase; partial = partial; rooms = rooms; opened = opened }. record { routes = routes.items; max_body = max_body; passing = passing; keep = keep; phase = phase; partial = partial.items; kept = rooms; opened = opened } };
 }
 
 impl Gateway {
@@ -185,7 +187,26 @@ impl Gateway {
                 encoder: Encoder::new(alloc, config.encoding()),
                 untaken: 0,
             },
+            opened: 0,
         })
+    }
+
+    /// How many streams the client opened, whatever became of them (RFC 9113, section 5.1): at most 10,000.
+    pub fn opened(&self) -> u32
+        ensures { result ≡ opened_in self.now }
+    {
+        if self.is_open() {
+            self.count_streams()
+        } else {
+            self.opened
+        }
+    }
+
+    /// How many streams were opened by what is kept.
+    fn count_streams(&self) -> u32
+        ensures { result ≡ length self.now.kept.inbound.rows }
+    {
+        self.rooms.inbound.opened()
     }
 
     /// Whether the client's connection is open, and memory was never refused.
@@ -347,11 +368,12 @@ impl Gateway {
 
     /// Lets go of all that is kept.
     fn let_go(&mut self)
-        ensures stays { self.new ≡ record self.old { partial = []; kept = self.new.kept } }
+        ensures stays { self.new ≡ record self.old { partial = []; kept = self.new.kept; opened = length self.old.kept.inbound.rows } }
         ensures small { (setup : Setup) → IsSmall setup self.new.kept }
         ensures nothing { held_in_rooms self.new.kept ≡ 0 }
         ensures no_marks { self.new.kept.marks ≡ [] }
     {
+        self.opened = self.count_streams();
         self.partial = Vec::new(self.alloc);
         self.rooms = no_rooms(self.alloc);
     }

@@ -8,7 +8,7 @@ use Rattle.configuration.specs.Configs.{ConfiguresNothing}
 use Rattle.command_line.specs.declared.words.Word.{Word}
 use Rattle.command_line.specs.declared.words.Word.TheVariants as value
 use Rattle.command_line.specs.declared.words.WordsFault.{WordsFault}
-use Rattle.command_line.specs.Gateways.{Refuses}
+use Rattle.command_line.specs.Gateways.{IsNeeded, Refuses}
 use Rattle.h2gw_parts.specs.Addresses.{IsAddress, IsNoAddress}
 use Rattle.h2gw_parts.specs.Stops.{stop_of}
 use Rattle.h2gw_parts.specs.declared.stops.Stop.{Stop}
@@ -43,14 +43,6 @@ LacksSetting listen stop = ⊥
 abbrev pub LacksWords : List (List ℕ) → Stop → Type 0
 LacksWords arguments stop = (fault : WordsFault) × (stop ≡ stop_of fault) × Refuses arguments fault
 
--- The value is one of the gateway's, and needed.
-abbrev pub IsGatewayValue : Word → Type 0
-IsGatewayValue value.Config = ⊤
-IsGatewayValue value.Listen = ⊤
-IsGatewayValue value.Connections = ⊤
-IsGatewayValue value.Turns = ⊤
-IsGatewayValue word = ⊥
-
 -- The value has to be a number.
 abbrev pub IsCountValue : Word → Type 0
 IsCountValue value.Connections = ⊤
@@ -62,7 +54,7 @@ IsCountValue word = ⊥
 -- Why the command line isn't taken. Which arguments the program has isn't told.
 abbrev pub IsWordsStop : Stop → Type 0
 IsWordsStop (Words error) = ⊤
-IsWordsStop (Missing word) = IsGatewayValue word
+IsWordsStop (Missing word) = IsNeeded word
 IsWordsStop (NotANumber word) = IsCountValue word
 IsWordsStop NotUtf8 = ⊤
 IsWordsStop Memory = ⊤

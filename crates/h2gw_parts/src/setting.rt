@@ -38,7 +38,7 @@ pub struct Setting {
     pub clients: u32,
     /// For how many seconds a client may neither say nor take anything; 0 is for ever.
     pub idle: u32,
-    /// Connections are told of on standard error.
+    /// Exchanges with servers and connections are told of on standard error.
     pub is_logged: bool,
 }
 

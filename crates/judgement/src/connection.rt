@@ -115,6 +115,13 @@ impl Connection {
         self.streams.open(id, live)
     }
 
+    /// How many streams the client opened, whatever became of them (RFC 9113, section 5.1); at most 10,000.
+    pub fn opened(&self) -> u32
+        ensures { result ≡ length self.now.rows }
+    {
+        self.streams.count()
+    }
+
     /// What comes of a type of frame on an id by the state of its stream (RFC 9113, section 5.1). Where the answer is `Open`, the stream may be opened.
     pub fn verdict(&self, id: u32, kind: Kind) -> Verdict
         ensures is { verdict_in result ≡ verdict self.now.rows id (kind_in kind) }

@@ -17,6 +17,10 @@ const FIRST_REQUEST: &[u8] =
 const WITHOUT_WINDOW: &[u8] =
     b"PRI * HTTP/2.0\r\n\r\nSM\r\n\r\n\0\0\x06\x04\0\0\0\0\0\0\x04\0\0\0\0\0\0\x14\x01\x05\0\0\0\x01\x82\x86\x84\x41\x0fwww.example.com";
 
+/// The first request, and DATA on stream 0, which closes the connection (RFC 9113, section 6.1).
+const CLOSED_BEHIND_IT: &[u8] =
+    b"PRI * HTTP/2.0\r\n\r\nSM\r\n\r\n\0\0\0\x04\0\0\0\0\0\0\0\x14\x01\x05\0\0\0\x01\x82\x86\x84\x41\x0fwww.example.com\0\0\0\0\0\0\0\0\0";
+
 /// The request's text upstream.
 const FORWARDED: &[u8] =
     b"GET / HTTP/1.1\r\nhost: www.example.com\r\nvia: 2.0 h2gw\r\nconnection: close\r\n\r\n";
@@ -107,6 +111,21 @@ fn fault_of(
 fn a_configuration_bounds_what_is_held(rt: HostRuntime) -> Result<(), Fail> {
     let config = config(rt.alloc(), Passing::Whole)?;
     assert_eq!(rt; config.held_bound(), 40_500_000);
+    Ok(())
+}
+
+/// How many streams a gateway counts to which these octets came first.
+fn opened_behind(alloc: Global, first: &[u8]) -> Result<u32, Fail> {
+    let mut gateway = whole_gateway(alloc)?;
+    take(&mut gateway, &client(alloc, first)?, &mut Vec::new(alloc))?;
+    Ok(gateway.opened())
+}
+
+#[test]
+fn opened_streams_are_counted(rt: HostRuntime) -> Result<(), Fail> {
+    assert_eq!(rt; opened_behind(rt.alloc(), &FIRST_REQUEST[..33])?, 0);
+    assert_eq!(rt; opened_behind(rt.alloc(), FIRST_REQUEST)?, 1);
+    assert_eq!(rt; opened_behind(rt.alloc(), CLOSED_BEHIND_IT)?, 1);
     Ok(())
 }
 

@@ -181,6 +181,26 @@ fn exchange(alloc: Global, pieces: &[&[u8]]) -> Result<Vec<Event>, AllocError> {
     Ok(events)
 }
 
+/// How many streams a service counts once it took what comes next in this world.
+fn opened_in_turn(alloc: Global, config: &Config, world: &mut MemoryWorld) -> Result<u32, Fail>
+    requires begins { (world.old.calls ≡ 0) × (world.old.failures ≡ 0) }
+    requires servable { IsServable (setup_of config.now) }
+{
+    let mut service = Service::new(alloc, config)?;
+    if service.take_turn(world) != Ok(None) {
+        return Err("the service ended".into());
+    }
+    Ok(service.opened())
+}
+
+#[test]
+fn a_service_counts_opened_streams(rt: HostRuntime) -> Result<(), Fail> {
+    let config = one_route(rt.alloc(), b"")?;
+    let mut world = MemoryWorld::new(rt.alloc(), exchange(rt.alloc(), &[])?, None);
+    assert_eq!(rt; opened_in_turn(rt.alloc(), &config, &mut world)?, 1);
+    Ok(())
+}
+
 /// Writes an output on a line.
 fn write_output(output: &Output, text: &mut Vec<u8>) -> io::Result<()> {
     match output {

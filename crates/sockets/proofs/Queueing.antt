@@ -1,14 +1,15 @@
 -- Sockets stand in queues, from call to call.
-use Rattle.std.proofs.Common.{◌≡◌, ◌<◌, ◌≤◌, ◌+◌, ◌++◌, ◌∙◌, ℕ, zero, suc, List, [], ◌∷◌, length, set, get_or, take, drop, refl, sym, ap, subst, append_assoc, append-nil, arith}
+use Rattle.std.proofs.Common.{◌≡◌, ◌<◌, ◌≤◌, ◌+◌, ◌++◌, ◌∙◌, ℕ, zero, suc, List, [], ◌∷◌, length, set, get_or, refl, sym, ap, subst, append_assoc, append-nil, arith}
 use Rattle.std.specs.Prelude.{Bool, ◌||◌, ◌&&◌, ◌==◌, not, true, false, nat_lt, if◌then◌else◌, Option, None, Some}
 use Rattle.std.proofs.lemmas.Bool.Decides.{nat_tests}
-use Rattle.std.specs.List.{Contains, insert, remove}
+use Rattle.std.specs.List.{Contains, filter, insert, list_any, remove}
 use Rattle.std.specs.List.Sorted.{IsPartitionPoint}
-use Rattle.std.proofs.lemmas.List.Elements.{Contains-append_left, Contains-push}
+use Rattle.std.proofs.lemmas.List.Elements.{Contains-append_left, Contains-append_right, Contains-push}
+use Rattle.std.proofs.lemmas.List.Folds.{list_any_at}
 use Rattle.transfers.specs.Transfers.{Way, told}
 use Rattle.sockets.specs.Sides.{may_be_ready, out_of, owes, side_told}
 use Rattle.sockets.specs.Performed.{AreRising, IsOpenNowhere}
-use Rattle.sockets.specs.Queues.{Grows, took_untold, IsMarked, IsListed, AllListed, IsClientListed, AreQueued, is_client_first, client_last}
+use Rattle.sockets.specs.Queues.{Grows, took_untold, IsMarked, IsListed, AllListed, IsClientListed, AreQueued, is_clients, client_last}
 use Rattle.sockets.specs.declared.side.Side.{Side}
 use Rattle.sockets.specs.declared.upstream.Upstream.{Upstream}
 
@@ -44,42 +45,75 @@ stands_on x n a other stands = stands_at x n a stands.0 other stands.1 stands.2
 abbrev pub StandsIn : List ℕ → List ℕ → Type 0
 StandsIn a b = (x : ℕ) → Contains a x → Contains b x
 
-turned_at : (x n : ℕ) (a : List ℕ) (i : ℕ) → i < length (n ∷ a) → get_or (n ∷ a) i x ≡ x → Contains (a ++ n ∷ []) x
-turned_at x n a zero within is = subst (λ m. Contains (a ++ m ∷ []) x) (sym is) (Contains-push a x)
-turned_at x n a (suc i) within is = Contains-append_left a (n ∷ []) x (i, grind (arith, within), is)
+-- ---- the client goes behind the others
 
-stands_turned : (n : ℕ) (a : List ℕ) (is_first : Bool) → StandsIn (n ∷ a) (if is_first then a ++ n ∷ [] else n ∷ a)
-stands_turned n a true x stands = turned_at x n a stands.0 stands.1 stands.2
-stands_turned n a false x stands = stands
+-- another number than the client's
+abbrev pub is_other : ℕ → Bool
+is_other number = not (is_clients number)
+
+stands_before : (x n : ℕ) (a : List ℕ) → Contains a x → Contains (n ∷ a) x
+stands_before x n a stands = let within = stands.1 in (suc stands.0, grind (arith, within), stands.2)
+
+-- Another number that stands in a queue stands among the others.
+stands_among : (x : ℕ) → is_other x ≡ true → (a : List ℕ) (i : ℕ) → i < length a → get_or a i x ≡ x → Contains (filter is_other a) x
+stands_among x other [] i within is = absurd (omega (arith, within))
+stands_among x other (n ∷ a) zero within is = by (is_other n) refl
+  where
+    by : (b : Bool) → is_other n ≡ b → Contains (filter is_other (n ∷ a)) x
+    by true e = rw e (zero, grind arith, is)
+    by false e = absurd (let no : false ≡ true = sym e ∙ ap is_other is ∙ other in cc)
+stands_among x other (n ∷ a) (suc i) within is = by (stands_among x other a i (grind (arith, within)) is) (is_other n) refl
+  where
+    by : Contains (filter is_other a) x → (b : Bool) → is_other n ≡ b → Contains (filter is_other (n ∷ a)) x
+    by rest true e = rw e (stands_before x n _ rest)
+    by rest false e = rw e rest
 
 -- All that stand there stand there where the client goes behind the others.
 pub stands_last : (a b : List ℕ) → b ≡ client_last a → StandsIn a b
-stands_last [] b is x stands = absurd (let within = stands.1 in omega (arith, within))
-stands_last (n ∷ a) b is x stands = subst (λ xs. Contains xs x) (sym is) (stands_turned n a (n == 0) x stands)
+stands_last a b is x stands = subst (λ xs. Contains xs x) (sym is) (by (is_clients x) refl)
+  where
+    by : (c : Bool) → is_clients x ≡ c → Contains (client_last a) x
+    by true e =
+        let zero_is : x ≡ 0 = grind (arith, nat_tests) in
+        let any : list_any is_clients a ≡ true = list_any_at is_clients a stands.0 x stands.1 (ap is_clients stands.2 ∙ e) in
+        Contains-append_right (filter is_other a) _ x (rw any (zero, grind arith, sym zero_is))
+    by false e = Contains-append_left (filter is_other a) _ x (stands_among x (ap not e) a stands.0 stands.1 stands.2)
 
--- The client was the next one, and the one at the front was put behind the others.
-pub turned_last : (a b : List ℕ) → is_client_first a ≡ true → b ≡ drop 1 a ++ take 1 a → b ≡ client_last a
-turned_last [] b first is = absurd (let no : false ≡ true = first in cc)
-turned_last (n ∷ a) b first is = is ∙ ap (λ is_first. if is_first then a ++ n ∷ [] else n ∷ a) (sym first)
+kept_few : (a : List ℕ) → length (filter is_other a) ≤ length a
+kept_few [] = omega arith
+kept_few (n ∷ a) = by (kept_few a) (is_other n) refl
+  where
+    by : length (filter is_other a) ≤ length a → (b : Bool) → is_other n ≡ b → length (filter is_other (n ∷ a)) ≤ length (n ∷ a)
+    by few true e = rw e (omega (arith, few))
+    by few false e = rw e (omega (arith, few))
 
--- Another one was the next one, or none was.
-pub kept_last : (a : List ℕ) → is_client_first a ≡ false → a ≡ client_last a
-kept_last [] other = refl
-kept_last (n ∷ a) other = ap (λ is_first. if is_first then a ++ n ∷ [] else n ∷ a) (sym other)
+-- Where fewer are left without the client it stood there, and else it didn't.
+some_left : (a : List ℕ) → length (filter is_other a) < length a → list_any is_clients a ≡ true
+some_left [] fewer = absurd (omega (arith, fewer))
+some_left (n ∷ a) fewer = by (some_left a) (is_clients n) refl
+  where
+    by : (length (filter is_other a) < length a → list_any is_clients a ≡ true) → (b : Bool) → is_clients n ≡ b → list_any is_clients (n ∷ a) ≡ true
+    by rest true e = rw e refl
+    by rest false e = rw e (rest (let less : length (n ∷ filter is_other a) < length (n ∷ a) = rw e at fewer in omega (arith, less)))
 
--- There is one where the client is the next one.
-pub some_first : (a : List ℕ) → is_client_first a ≡ true → 1 ≤ length a
-some_first [] first = absurd (let no : false ≡ true = first in cc)
-some_first (n ∷ a) first = omega arith
+none_left : (a : List ℕ) → length a ≤ length (filter is_other a) → list_any is_clients a ≡ false
+none_left [] all = refl
+none_left (n ∷ a) all = by (none_left a) (is_clients n) refl
+  where
+    by : (length a ≤ length (filter is_other a) → list_any is_clients a ≡ false) → (b : Bool) → is_clients n ≡ b → list_any is_clients (n ∷ a) ≡ false
+    by rest true e = absurd (let few = kept_few a in let more : length (n ∷ a) ≤ length (filter is_other a) = rw e at all in omega (arith, few, more))
+    by rest false e = rw e (rest (let more : length (n ∷ a) ≤ length (n ∷ filter is_other a) = rw e at all in omega (arith, more)))
 
--- The one at the front is the next one.
-pub first_is : (a : List ℕ) (n : ℕ) → 0 < length a → n ≡ get_or a 0 n → (n == 0) ≡ is_client_first a
-first_is [] n some is = absurd (omega (arith, some))
-first_is (m ∷ a) n some is = ap (λ x. x == 0) is
+-- The others were left, and the client was put behind them, if it stood there.
+pub turned_last : (a b c : List ℕ) → b ≡ filter is_other a → length b < length a → c ≡ b ++ 0 ∷ [] → c ≡ client_last a
+turned_last a b c left fewer is =
+    let any : list_any is_clients a ≡ true = some_left a (subst (λ xs. length xs < length a) left fewer) in
+    rw any (is ∙ ap (λ xs. xs ++ 0 ∷ []) left)
 
-pub none_first : (a : List ℕ) → (0 < length a → ⊥) → false ≡ is_client_first a
-none_first [] none = refl
-none_first (n ∷ a) none = absurd (none (omega arith))
+pub kept_last : (a b : List ℕ) → b ≡ filter is_other a → length a ≤ length b → b ≡ client_last a
+kept_last a b left all =
+    let any : list_any is_clients a ≡ false = none_left a (subst (λ xs. length a ≤ length xs) left all) in
+    rw any (left ∙ sym (append-nil (filter is_other a)))
 
 -- ---- marks
 

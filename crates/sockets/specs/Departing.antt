@@ -1,9 +1,18 @@
 -- A client that is being left.
-use Rattle.std.specs.Prelude.{length}
+use Rattle.std.specs.Prelude.{◌≡◌, ◌==◌, ◌&&◌, ◌⊎◌, Bool, true, length}
 use Rattle.std.specs.declared.time.Instant.{Instant}
+use Rattle.sockets.specs.Leaving.{time_left}
 use Rattle.sockets.specs.declared.side.Side.{Side}
 use Rattle.sockets.specs.declared.departure.Departure.{Departure}
 
 -- A client begins to be left now: what waits for it waits still.
 abbrev pub departing : {S : Type 0} → Instant → Side S → Departure S
 departing now client = record { client = client; leaving = record { waiting = length client.out.waiting; taken = now; heard = now } }
+
+-- All that was put out for a client is written, and its end was read.
+abbrev pub is_left : {S : Type 0} → Side S → Bool
+is_left client = (length client.out.waiting == 0) && client.ended
+
+-- So it is with the client, or it was waited for long enough.
+abbrev pub IsOver : {S : Type 0} → Departure S → Type 0
+IsOver departure = (is_left departure.client ≡ true) ⊎ ((now : Instant) × (time_left now departure.leaving ≡ 0))

@@ -1,13 +1,13 @@
 -- Which sockets stand among those of which something may be read, and which upstreams among those of which it may have to be told what they took.
 use Rattle.std.specs.Prelude.{◌≡◌, ◌<◌, ◌++◌, ◌&&◌, ◌==◌, ℕ, Bool, true, false, not, nat_lt, if◌then◌else◌, List, [], ◌∷◌, length, Option, None, Some, ⊤}
-use Rattle.std.specs.List.{Contains}
+use Rattle.std.specs.List.{Contains, filter, list_any}
 use Rattle.outputs.specs.declared.events.Output.{Output}
 use Rattle.outputs.specs.declared.events.Output.TheVariants.{Open}
 use Rattle.sockets.specs.Sides.{may_be_ready}
 use Rattle.sockets.specs.Performed.{IsOpenNowhere}
 use Rattle.sockets.specs.declared.side.Side.{Side}
 use Rattle.sockets.specs.declared.upstream.Upstream.{Upstream}
-use Rattle.sockets.specs.declared.world.Sockets.{Sockets}
+use Rattle.sockets.specs.declared.connections.Sockets.{Sockets}
 
 -- Numbers stay in a queue, and others may stand behind them.
 pub record Grows (old new : List ℕ) : Type 0 where
@@ -58,16 +58,14 @@ abbrev pub OpensAnew : {S : Type 0} → Output → List (Upstream S) → Type 0
 OpensAnew (Open k route) upstreams = (0 < k) × IsOpenNowhere k upstreams
 OpensAnew output upstreams = ⊤
 
--- whether the client, whose number is 0, is the next one to be read
-abbrev pub is_client_first : List ℕ → Bool
-is_client_first [] = false
-is_client_first (number ∷ numbers) = number == 0
+-- whether a number is the client's
+abbrev pub is_clients : ℕ → Bool
+is_clients number = number == 0
 
--- those to be read, where the client goes behind the others if it is the next one
+-- those to be read, where the client goes behind the others if it stands among them
 abbrev pub client_last : List ℕ → List ℕ
-client_last [] = []
-client_last (number ∷ numbers) = if number == 0 then numbers ++ number ∷ [] else number ∷ numbers
+client_last numbers = filter (λ number. not (is_clients number)) numbers ++ (if list_any is_clients numbers then 0 ∷ [] else [])
 
--- Octets came of the client since all sockets were last looked at, and it is the next one to be read, though connections are open.
+-- Octets came of the client since all sockets were last looked at, and it stands among those to be read, though connections are open.
 abbrev pub is_behind : {N S Stream Listener : Type 0} → Sockets N S Stream Listener → Bool
-is_behind sockets = (sockets.is_client_heard && is_client_first sockets.ready.items) && not (length sockets.upstreams.items == 0)
+is_behind sockets = (sockets.is_client_heard && sockets.is_client_queued) && not (length sockets.upstreams.items == 0)

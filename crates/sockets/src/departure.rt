@@ -1,11 +1,13 @@
 //! A client that is being left.
 
-ghost use Rattle.std.specs.Prelude.{◌≡◌};
-ghost use Rattle.sockets.specs.Departing.{departing};
+ghost use Rattle.std.specs.Prelude.{◌≡◌, ◌==◌, IfOk, IfNone, if◌then◌else◌};
+ghost use Rattle.sockets.specs.Departing.{departing, is_left, IsOver};
 ghost use Rattle.sockets.specs.Sides.{lost_news, noted, Goes};
+ghost use Rattle.sockets.specs.Tokens.{number_reported};
 
 use crate::buffer::Buffer;
 use crate::leaving::Leaving;
+use crate::reporting::number_in;
 use crate::side::Side;
 use crate::wire::Wire;
 use mio::Registry;
@@ -30,11 +32,13 @@ impl<S: Wire> Departure<S> {
         Departure { client, leaving }
     }
 
-    /// Notes what was reported of its socket.
+    /// Notes what was reported of its socket. A report of a connection to an upstream, which is closed by now, changes nothing.
     pub fn hear(&mut self, report: &Report)
-        ensures { self.new ≡ record self.old { client = noted report.now self.old.client } }
+        ensures { self.new ≡ (if number_reported report.now == 0 then record self.old { client = noted report.now self.old.client } else self.old) }
     {
-        self.client.note(report);
+        if number_in(report.token()) == 0 {
+            self.client.note(report);
+        }
     }
 
     /// Goes on without waiting: writes what its socket takes of what waits for it, tells it that nothing more is written once nothing waits, and reads and drops what is there, in one
@@ -47,7 +51,8 @@ impl<S: Wire> Departure<S> {
         registry: &Registry,
         buffer: &mut Buffer,
     ) -> io::Result<Option<Duration>>
-        ensures { Goes S.left S.held lost_news self.old.client self.new.client }
+        ensures goes { Goes S.left S.held lost_news self.old.client self.new.client }
+        ensures left { IfOk result (λ most. IfNone most (IsOver self.new)) }
     {
         if write_rest(
             &mut self.client,
@@ -91,7 +96,8 @@ pub fn write_rest<S: Wire>(
     registry: &Registry,
     now: Instant,
 ) -> io::Result<bool>
-    ensures { Goes S.left S.held lost_news client.old client.new }
+    ensures goes { Goes S.left S.held lost_news client.old client.new }
+    ensures left { IfOk result (λ left. left ≡ is_left client.new) }
 {
     client.flush(registry)?;
     leaving.note_waiting(now, client.waiting());

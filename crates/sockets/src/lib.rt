@@ -1,9 +1,12 @@
 //! The world of sockets: one client of a gateway, and the upstreams that are opened for it; and what tells the worlds of many clients what is reported.
+//! Tests stand in `sockets_tests`.
 #![tactic(auto)]
 
 mod buffer;
+mod connections;
 mod departure;
 mod leaving;
+mod queues;
 mod reactor;
 mod reporting;
 mod rooms;
@@ -15,23 +18,7 @@ mod world;
 pub use buffer::Buffer;
 pub use departure::Departure;
 pub use reactor::Reactor;
-pub use reporting::client_in;
+pub use reporting::{client_in, number_in, token_in};
+pub use side::Side;
 pub use wire::Wire;
 pub use world::SocketWorld;
-
-#[cfg(test)]
-mod behind_tests;
-#[cfg(test)]
-mod bodies_tests;
-#[cfg(test)]
-mod leaving_tests;
-#[cfg(test)]
-mod loopback;
-#[cfg(test)]
-mod reactor_tests;
-#[cfg(test)]
-mod side_tests;
-#[cfg(test)]
-mod tests;
-#[cfg(test)]
-mod upstream_tests;

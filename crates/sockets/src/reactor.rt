@@ -1,4 +1,4 @@
-//! One poll for the sockets of many worlds.
+//! One poll for the sockets of a world, or of many.
 
 ghost use Rattle.std.specs.Prelude.{◌≡◌, ◌≢◌, [], IfOk, IfErr, OnErr};
 ghost use Rattle.std.specs.IoError.{error_kind};
@@ -11,10 +11,12 @@ use std::io::ErrorKind;
 use std::net::Net;
 use std::time::Duration;
 
-/// How many sockets may be reported at once.
+/// How many sockets may be reported at once: of many worlds, and of one.
 const REPORTS: usize = 1024;
 
-/// One poll for the sockets of many worlds: it waits for all of them, and has what was reported, by tokens that say whose it is (`client_in`).
+const REPORTS_OF_ONE: usize = 128;
+
+/// One poll for the sockets of a world, or of many: it waits for all of them, and has what was reported, by tokens that say whose it is (`client_in`).
 #[derive(Drop)]
 pub struct Reactor {
     poll: Poll,
@@ -22,14 +24,31 @@ pub struct Reactor {
 }
 
 impl Reactor {
-    /// A reactor without sources. An error says that too many files are open, or that memory was refused.
+    /// A reactor without sources, for many worlds. An error says that too many files are open, or that memory was refused.
     pub fn new<N: Net>(alloc: Global, net: &N) -> io::Result<Reactor>
+        ensures { IfOk result (λ reactor. items reactor.reports ≡ []) }
+    {
+        Reactor::with_room(alloc, net, REPORTS)
+    }
+
+    /// Such a one for a single world.
+    pub(crate) fn of_one<N: Net>(alloc: Global, net: &N) -> io::Result<Reactor> {
+        Reactor::with_room(alloc, net, REPORTS_OF_ONE)
+    }
+
+    /// One that is told of so many sockets at once.
+    fn with_room<N: Net>(alloc: Global, net: &N, reports: usize) -> io::Result<Reactor>
         ensures { IfOk result (λ reactor. items reactor.reports ≡ []) }
     {
         Ok(Reactor {
             poll: Poll::new(net)?,
-            reports: Events::with_capacity(alloc, REPORTS)?,
+            reports: Events::with_capacity(alloc, reports)?,
         })
+    }
+
+    /// Its sources.
+    pub(crate) fn registry(&self) -> &Registry {
+        self.poll.registry()
     }
 
     /// Another owner of its sources, which worlds are lent. It takes a file more.

@@ -3,28 +3,16 @@
 ghost use Rattle.std.specs.Prelude.{◌≡◌, ◌↔◌, ◌^◌, ◌/◌, ◌%◌, IsTrue};
 ghost use Rattle.sockets.specs.Tokens.{number_of_client, token_number};
 
-use mio::{Events, Poll, Registry, Token};
-use std::alloc::Global;
-use std::io;
-use std::net::Net;
-
-/// How many sockets may be reported at once.
-const REPORTS: usize = 128;
+use crate::reactor::Reactor;
+use mio::{Registry, Token};
 
 /// By what the sockets of a world are reported.
 #[derive(Drop)]
 pub enum Reporting<'a> {
-    /// A poll of its own, for which the world waits.
-    Own(Own),
-    /// A reactor, which tells the world what is reported.
+    /// A reactor of its own, for which the world waits.
+    Own(Reactor),
+    /// A reactor of many worlds, which tells this one what is reported.
     Shared(Shared<'a>),
-}
-
-/// A poll, and what it reported last.
-#[derive(Drop)]
-pub struct Own {
-    pub poll: Poll,
-    pub reports: Events,
 }
 
 /// The sources of a reactor, and the number of a client among those that it has.
@@ -34,22 +22,27 @@ pub struct Shared<'a> {
     pub client: u32,
 }
 
-impl Own {
-    /// A poll without sources.
-    pub fn new<N: Net>(alloc: Global, net: &N) -> io::Result<Own> {
-        Ok(Own {
-            poll: Poll::new(net)?,
-            reports: Events::with_capacity(alloc, REPORTS)?,
-        })
-    }
-}
-
 impl<'a> Reporting<'a> {
     /// The sources that are reported.
     pub fn registry(&self) -> &Registry {
         match self {
-            Reporting::Own(own) => own.poll.registry(),
+            Reporting::Own(own) => own.registry(),
             Reporting::Shared(shared) => shared.registry,
+        }
+    }
+
+    /// Whether it is a reactor of many worlds.
+    pub fn is_shared(&self) -> bool {
+        matches!(self, Reporting::Shared(_))
+    }
+
+    /// The number of the client among those of its reactor.
+    fn client(&self) -> u32
+        ensures { result ≡ number_of_client self.now }
+    {
+        match self {
+            Reporting::Own(_) => 0,
+            Reporting::Shared(shared) => shared.client,
         }
     }
 
@@ -57,20 +50,14 @@ impl<'a> Reporting<'a> {
     pub fn token_of(&self, number: u32) -> Token
         ensures { result.0 ≡ token_number (number_of_client self.now) number }
     {
-        match self {
-            Reporting::Own(_) => token_in(0, number),
-            Reporting::Shared(shared) => token_in(shared.client, number),
-        }
+        token_in(self.client(), number)
     }
 
     /// Whether a token is of one of its client's sockets.
     pub fn has(&self, token: Token) -> bool
         ensures { IsTrue result ↔ (token.0 / 2 ^ 32 ≡ number_of_client self.now) }
     {
-        match self {
-            Reporting::Own(_) => client_in(token) == 0,
-            Reporting::Shared(shared) => client_in(token) == shared.client,
-        }
+        client_in(token) == self.client()
     }
 }
 

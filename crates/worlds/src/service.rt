@@ -4,6 +4,7 @@ ghost use Rattle.std.specs.Prelude.{◌≡◌, ◌+◌, ◌<◌, ◌≤◌, ◌^
 ghost use Rattle.model.specs.Logs.{Step};
 ghost use Rattle.model.specs.Setup.{Setup};
 ghost use Rattle.gateway.specs.Setups.{setup_of, IsServable};
+ghost use Rattle.gateway.specs.Stands.{opened_in};
 ghost use Rattle.worlds.specs.Worlds.{Handed, AddsFrontTo, AddsRefusedTo, AddsUnansweredTo, HandsTo, SaysEnd, ends};
 ghost use Rattle.worlds.specs.Services.{Begins, Goes, AddsPromised, turn_of, outcome_of};
 
@@ -51,6 +52,13 @@ impl Service {
             rooms: Vec::new(alloc),
             outcome: None,
         })
+    }
+
+    /// How many streams the client opened so far, whatever became of them (RFC 9113, section 5.1): at most 10,000.
+    pub fn opened(&self) -> u32
+        ensures { result ≡ opened_in self.now.gateway }
+    {
+        self.gateway.opened()
     }
 
     /// Takes a turn: asks the world what comes next, and takes the event if one does; what is put out for it is applied in order. The answer is how serving ended,

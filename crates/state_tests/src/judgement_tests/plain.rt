@@ -246,6 +246,8 @@ fn assert_granted_and_reset(rt: &impl Abort, connection: &mut Connection) -> Res
     assert_eq!(rt; connection.verdict(3, Kind::Data), Verdict::Discard);
     assert_eq!(rt; connection.verdict(9, Kind::Data), Verdict::Connection(5));
     assert_eq!(rt; first_that_differs(connection, &LARGER), None);
+    // Whatever became of them.
+    assert_eq!(rt; connection.opened(), 4);
     Ok(())
 }
 

@@ -1,6 +1,6 @@
 use Rattle.std.proofs.Common.{◌≡◌, ◌-◌, ◌^◌, min, take}
 use Rattle.h1_reader.specs.Views.{parts_of}
-use Rattle.exchange_log.specs.Exchanges.{octets_in}
+use Rattle.exchange_log.proofs.Pieces.{octets_in}
 use Rattle.exchange_log.proofs.exchange.octets_in.Given as goal
 
 abbrev pub invariant-loop-piece : goal.invariant-loop-piece

@@ -1,7 +1,6 @@
 use Rattle.std.proofs.Common.{Some, sym, ◌∷◌, ◌∙◌, ap}
 use Rattle.h1_reader.specs.Views.{part_of}
-use Rattle.exchange_log.specs.Exchanges.{status_in}
-use Rattle.exchange_log.proofs.Pieces.{found, none_more, no_head}
+use Rattle.exchange_log.proofs.Pieces.{status_in, found, none_more, no_head}
 use Rattle.exchange_log.proofs.exchange.status_in.Goals as goal
 
 pub returns-in-Head : goal.returns-in-Head

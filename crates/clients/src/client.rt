@@ -1,0 +1,264 @@
+//! One client of many: it is served, and then left.
+
+ghost use Rattle.std.specs.Prelude.{◌+◌, ◌<◌, ◌≡◌, ◌^◌};
+ghost use Rattle.gateway.specs.Setups.{setup_of, IsServable};
+
+use crate::log::say_exchanges;
+use crate::watched::Watched;
+use exchange_log::Exchanges;
+use gateway::Passing;
+use h2gw_parts::setting::Setting;
+use mio::Registry;
+use mio::event::Event as Report;
+use mio::net::TcpStream as Socket;
+use sockets::{Buffer, Departure, SocketWorld};
+use std::alloc::Global;
+use std::io;
+use std::net::SocketAddr;
+use std::time::{Duration, Instant};
+use worlds::{Ended, ServeFault, Service, WorldFault};
+
+/// So many turns in a row a client has at most, whether others wait for theirs or not.
+const ROUND: u32 = 16;
+
+/// How serving a client ended.
+pub type Outcome = Result<Ended, ServeFault>;
+
+/// A client that is there.
+#[derive(Drop)]
+pub struct Client<'a> {
+    /// Its number: clients count from 1 on in the order in which they came.
+    pub number: u32,
+    /// Where it is.
+    pub address: SocketAddr,
+    /// It stands among those that have something left.
+    pub is_queued: bool,
+    /// As long as it is served.
+    serving: Option<Serving<'a>>,
+    /// Once it is left.
+    departure: Option<Departure<Socket>>,
+    /// When it came.
+    pub came: Instant,
+    /// How many streams it had opened when serving it ended.
+    pub opened: u32,
+    /// When something last came of it or was taken by it, as far as that was asked.
+    moved: Instant,
+}
+
+/// The sockets of a client, whose exchanges with upstreams are noted or aren't.
+pub type WatchedSockets<'a> = Watched<'a, HostRuntime, SocketWorld<'a, HostRuntime, Socket>>;
+
+/// What serves a client.
+#[derive(Drop)]
+struct Serving<'a> {
+    service: Service,
+    sockets: WatchedSockets<'a>,
+    /// How many turns it has yet.
+    turns: u32,
+    // Its calls and failures can be counted as long as it has turns.
+    ghost calls: { sockets.world.calls + turns < 2 ^ 64 },
+    ghost failures: { sockets.world.failures + turns < 2 ^ 64 },
+}
+
+/// What a client has left behind its turns.
+#[derive(Clone, Copy, Debug, PartialEq, Eq, Drop)]
+pub enum Remaining {
+    /// Something: it is to have turns again.
+    More,
+    /// Nothing, until something is reported of it or time passes.
+    Nothing,
+    /// It is gone.
+    Gone,
+}
+
+/// What a round of turns came to.
+#[derive(Clone, Copy, Debug, PartialEq, Eq, Drop)]
+enum Round {
+    /// It has something left.
+    More,
+    /// It has nothing left.
+    Nothing,
+    /// Serving it ended.
+    Ended(Outcome),
+}
+
+/// What the clients of a program share.
+#[derive(Clone, Copy)]
+pub struct Common<'a> {
+    /// What it runs on.
+    pub rt: &'a HostRuntime,
+    /// What it is set up with.
+    pub setting: &'a Setting,
+    /// By what sockets are watched.
+    pub registry: &'a Registry,
+}
+
+/// Where exchanges are noted, if they are.
+fn exchanges_for(alloc: Global, setting: &Setting) -> Option<Exchanges> {
+    if !setting.is_logged {
+        return None;
+    }
+    let most = match setting.config.passing {
+        Passing::Whole => Some(setting.config.max_response),
+        Passing::Streaming => None,
+    };
+    Some(Exchanges::new(alloc, most))
+}
+
+impl<'a> Client<'a> {
+    /// A client that came, with this number, from 1 on. An error is the socket's or the clock's, or says that memory was refused.
+    pub fn new(
+        common: &Common<'a>,
+        number: u32,
+        address: SocketAddr,
+        socket: Socket,
+    ) -> io::Result<Client<'a>>
+        requires { IsServable (setup_of common.now.setting.now.config) }
+    {
+        let now = Instant::now(common.rt)?;
+        let alloc = common.rt.alloc();
+        let service = Service::new(alloc, &common.setting.config)?;
+        let addresses = &common.setting.addresses;
+        let world = SocketWorld::under(
+            alloc,
+            common.rt,
+            addresses,
+            common.registry,
+            number,
+            socket,
+        )?;
+        let sockets = Watched::new(common.rt, world, exchanges_for(alloc, common.setting));
+        Ok(Client {
+            number,
+            address,
+            is_queued: false,
+            serving: Some(Serving::begin(service, sockets, common.setting.turns)),
+            departure: None,
+            came: now,
+            opened: 0,
+            moved: now,
+        })
+    }
+
+    /// Whether it is being left.
+    pub fn is_left(&self) -> bool {
+        self.serving.is_none()
+    }
+
+    /// Notes what was reported of one of its sockets. An error says that it is lost.
+    pub fn hear(&mut self, report: &Report) -> Result<(), WorldFault> {
+        if let Some(serving) = &mut self.serving {
+            return serving.sockets.world.hear(report);
+        }
+        if let Some(departure) = &mut self.departure {
+            departure.hear(report);
+        }
+        Ok(())
+    }
+
+    /// Takes turns of it while it has something left, so many in a row at most. The answer is what it has left, and how serving it ended, if that was now.
+    pub fn go_on(
+        &mut self,
+        common: &Common<'a>,
+        buffer: &mut Buffer,
+    ) -> (Remaining, Option<Outcome>) {
+        let (number, address) = (self.number, self.address);
+        let Some(serving) = &mut self.serving else {
+            return (self.leave_on(common, buffer), None);
+        };
+        let round = serving.take_turns(buffer);
+        say_exchanges(common, number, address, &mut serving.sockets);
+        match round {
+            Round::More => (Remaining::More, None),
+            Round::Nothing => (Remaining::Nothing, None),
+            Round::Ended(outcome) => {
+                self.end(common);
+                (self.leave_on(common, buffer), Some(outcome))
+            }
+        }
+    }
+
+    /// Ends serving it, and begins to leave it.
+    pub fn end(&mut self, common: &Common<'a>) {
+        let Some(serving) = self.serving.take() else {
+            return;
+        };
+        self.opened = serving.service.opened();
+        let Serving { mut sockets, .. } = serving;
+        sockets.abandon();
+        say_exchanges(common, self.number, self.address, &mut sockets);
+        if let Ok(now) = Instant::now(common.rt) {
+            self.departure = Some(sockets.into_world().leave(now));
+        }
+    }
+
+    /// Goes on leaving it, without waiting.
+    fn leave_on(&mut self, common: &Common<'a>, buffer: &mut Buffer) -> Remaining {
+        let Some(departure) = &mut self.departure else {
+            return Remaining::Gone;
+        };
+        match departure.go_on(common.rt.alloc(), common.rt, common.registry, buffer) {
+            Ok(Some(most)) if most.is_zero() => Remaining::More,
+            Ok(Some(_)) => Remaining::Nothing,
+            // Where leaving it fails the client has gone.
+            Ok(None) | Err(_) => Remaining::Gone,
+        }
+    }
+
+    /// Ends what a client sends that neither said nor took anything for so long.
+    pub fn watch(&mut self, now: Instant, most: Duration) {
+        let Some(serving) = &mut self.serving else {
+            return;
+        };
+        if serving.sockets.world.take_moved() {
+            self.moved = now;
+        }
+        if now.duration_since(self.moved) >= most {
+            // A socket that can't be shut is over, which is reported.
+            let _ = serving.sockets.world.end_client();
+        }
+    }
+}
+
+impl<'a> Serving<'a> {
+    /// Serving begins, for so many turns at most, in a world that wasn't asked for anything yet.
+    fn begin(service: Service, sockets: WatchedSockets<'a>, turns: u32) -> Serving<'a>
+        requires calls { sockets.world.calls ≡ 0 }
+        requires failures { sockets.world.failures ≡ 0 }
+    {
+        Serving {
+            service,
+            sockets,
+            turns,
+        }
+    }
+
+    /// Takes a round of turns, with a buffer that was lent for that.
+    fn take_turns(&mut self, buffer: &mut Buffer) -> Round {
+        self.sockets.world.swap_buffer(buffer);
+        let round = self.take_round();
+        self.sockets.world.swap_buffer(buffer);
+        round
+    }
+
+    /// Takes turns while there is something left, so many in a row at most.
+    fn take_round(&mut self) -> Round {
+        self.sockets.world.catch_up();
+        for _ in 0..ROUND {
+            if self.turns == 0 {
+                return Round::Ended(Ok(Ended::Turns));
+            }
+            self.turns -= 1;
+            match self.service.take_turn(&mut self.sockets) {
+                // Where no turn is left it ends at once, though nothing is there.
+                Ok(None) if self.turns > 0 && self.sockets.world.is_quiet() =>
+                    return Round::Nothing,
+                Ok(None) if self.turns > 0 && self.sockets.world.is_behind() => return Round::More,
+                Ok(None) => {}
+                Ok(Some(ended)) => return Round::Ended(Ok(ended)),
+                Err(fault) => return Round::Ended(Err(fault)),
+            }
+        }
+        Round::More
+    }
+}

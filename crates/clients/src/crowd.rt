@@ -1,0 +1,360 @@
+//! Clients that are served at once.
+
+ghost use Rattle.std.specs.Prelude.{◌≡◌, ◌<◌, ◌≤◌, length, get_or, vec_len, IfErr, IfSome};
+ghost use Rattle.gateway.specs.Setups.{setup_of, IsServable};
+ghost use Rattle.h2gw_parts.specs.Stops.{status_of};
+
+use crate::client::{Client, Common, Outcome, Remaining};
+use crate::entrance::{Came, Entrance, Why};
+use crate::log::{say_ended, say_refused};
+use h2gw_parts::setting::Setting;
+use h2gw_parts::stops::Stop;
+use mio::Events;
+use mio::event::Event as Report;
+use mio::net::TcpListener;
+use sockets::{Buffer, Reactor, client_in};
+use std::collections::VecDeque;
+use std::io::ErrorKind;
+use std::time::{Duration, Instant};
+use std::{io, net};
+use worlds::ServeFault;
+
+/// After so many seconds it is looked after clients that are idle or being left.
+const TICK: u64 = 1;
+
+/// The clients that are there, and those that come.
+#[derive(Drop)]
+struct Crowd<'a> {
+    entrance: Entrance,
+    /// By rising number.
+    clients: Vec<Client<'a>>,
+    /// The numbers of the clients that have something left, the next one at the front.
+    queue: VecDeque<u32>,
+    /// How many of the clients are being left.
+    leaving: usize,
+    /// Where octets are read to, of whichever client has its turn.
+    buffer: Buffer,
+    /// When it was last looked after clients that are idle or being left.
+    ticked: Option<Instant>,
+}
+
+/// Serves the connections of clients at a listener, so many at once as the setting says.
+pub fn serve_crowd(
+    rt: &HostRuntime,
+    setting: &Setting,
+    listener: net::TcpListener,
+) -> Result<(), Stop>
+    requires { IsServable (setup_of setting.now.config) }
+    ensures { IfErr result (λ stop. 2 ≤ status_of stop) }
+{
+    if listener.set_nonblocking(true).is_err() {
+        return Err(Stop::Accept);
+    }
+    let mut reactor = Reactor::new(rt.alloc(), rt).map_err(|error| stop_of(&error))?;
+    let registry = reactor.sources().map_err(|error| stop_of(&error))?;
+    let common = Common {
+        rt,
+        setting,
+        registry: &registry,
+    };
+    serve_by(&common, &mut reactor, TcpListener::from_std(listener))
+}
+
+/// Serves the connections of clients at a listener, by a reactor.
+fn serve_by(common: &Common<'_>, reactor: &mut Reactor, listener: TcpListener) -> Result<(), Stop>
+    requires { IsServable (setup_of common.now.setting.now.config) }
+    ensures { IfErr result (λ stop. 2 ≤ status_of stop) }
+{
+    let mut crowd = Crowd::new(common, listener)?;
+    for _ in 0..u64::MAX {
+        if crowd.is_over() {
+            break;
+        }
+        crowd.wait(common, reactor)?;
+        crowd.go_on(common, reactor.reports())?;
+    }
+    Ok(())
+}
+
+/// Why the program stops where sockets can't be watched.
+fn stop_of(error: &io::Error) -> Stop
+    ensures { 2 ≤ status_of result }
+{
+    match error.kind() {
+        ErrorKind::OutOfMemory => Stop::Memory,
+        _ => Stop::Accept,
+    }
+}
+
+impl<'a> Crowd<'a> {
+    /// No clients as yet, and room for as many as may be there at once.
+    fn new(common: &Common<'a>, listener: TcpListener) -> Result<Crowd<'a>, Stop>
+        ensures { IfErr result (λ stop. 2 ≤ status_of stop) }
+    {
+        let alloc = common.rt.alloc();
+        let places = common.setting.clients as usize;
+        Ok(Crowd {
+            entrance: Entrance::new(listener, common.setting, common.registry),
+            clients: Vec::with_capacity(alloc, places)?,
+            queue: VecDeque::with_capacity(alloc, places)?,
+            leaving: 0,
+            buffer: Buffer::new(alloc),
+            ticked: None,
+        })
+    }
+
+    /// Whether all connections were served.
+    fn is_over(&self) -> bool {
+        self.clients.is_empty() && self.entrance.is_over()
+    }
+
+    /// Waits until something is reported, or is to be done.
+    fn wait(&mut self, common: &Common<'a>, reactor: &mut Reactor) -> Result<(), Stop>
+        ensures { IfErr result (λ stop. 2 ≤ status_of stop) }
+    {
+        self.entrance.watch(common.registry, self.clients.len())?;
+        reactor
+            .wait(self.patience(common.setting))
+            .map_err(|error| stop_of(&error))
+    }
+
+    /// How long it may be waited for a report. A client that may wait already isn't reported once more.
+    fn patience(&self, setting: &Setting) -> Option<Duration> {
+        if !self.queue.is_empty() || self.entrance.may_let_in(self.clients.len()) {
+            return Some(Duration::ZERO);
+        }
+        if self.is_ticking(setting) {
+            Some(Duration::from_secs(TICK))
+        } else {
+            None
+        }
+    }
+
+    /// Whether something is to be done where only time passes.
+    fn is_ticking(&self, setting: &Setting) -> bool {
+        self.leaving > 0 || setting.idle > 0 || self.entrance.is_paused()
+    }
+
+    /// Heeds what was reported, lets clients in, and lets each that has something left have its turns.
+    fn go_on(&mut self, common: &Common<'a>, reports: &Events) -> Result<(), Stop>
+        requires { IsServable (setup_of common.now.setting.now.config) }
+        ensures { IfErr result (λ stop. 2 ≤ status_of stop) }
+    {
+        for report in reports {
+            self.hear(common, report)?;
+        }
+        self.let_in(common)?;
+        self.tick(common)?;
+        self.take_turns(common)
+    }
+
+    /// Heeds a report: of the entrance, or of a client, who then has turns.
+    fn hear(&mut self, common: &Common<'a>, report: &Report) -> Result<(), Stop>
+        ensures { IfErr result (λ stop. 2 ≤ status_of stop) }
+    {
+        let number = client_in(report.token());
+        if number == 0 {
+            self.entrance.hear();
+            return Ok(());
+        }
+        match place_of(number, &self.clients) {
+            Some(place) => self.hear_of(common, place, report),
+            None => Ok(()),
+        }
+    }
+
+    /// Heeds a report of the client at a place, who then has turns.
+    fn hear_of(&mut self, common: &Common<'a>, place: usize, report: &Report) -> Result<(), Stop>
+        requires { place < vec_len self.old.clients }
+        ensures { IfErr result (λ stop. 2 ≤ status_of stop) }
+    {
+        let client = &mut self.clients[place];
+        if client.hear(report).is_err() {
+            client.end(common);
+            self.leaving = self.leaving.saturating_add(1);
+            note_end(common, client, &Err(ServeFault::World))?;
+        }
+        join(client, &mut self.queue)
+    }
+
+    /// Lets in the clients that wait, as far as there are places.
+    fn let_in(&mut self, common: &Common<'a>) -> Result<(), Stop>
+        requires { IsServable (setup_of common.now.setting.now.config) }
+        ensures { IfErr result (λ stop. 2 ≤ status_of stop) }
+    {
+        for _ in 0..common.setting.clients {
+            if !self.entrance.may_let_in(self.clients.len()) {
+                break;
+            }
+            match self.entrance.accept(common)? {
+                Came::Nobody => break,
+                Came::Gone => {}
+                Came::Refused(why) => self.refuse(common, why),
+                Came::Client(client) => self.keep(client, common.setting.turns)?,
+            }
+        }
+        Ok(())
+    }
+
+    /// Says why a client can't be served. Where none is let in until time passes, that time begins now.
+    fn refuse(&mut self, common: &Common<'a>, why: Why) {
+        say_refused(common.rt, why);
+        if self.entrance.is_paused() {
+            self.ticked = Instant::now(common.rt).ok();
+        }
+    }
+
+    /// A client is there. It has turns once something is reported of it, but where it may have none: then it is left at once.
+    fn keep(&mut self, mut client: Client<'a>, turns: u32) -> Result<(), Stop>
+        ensures { IfErr result (λ stop. 2 ≤ status_of stop) }
+    {
+        if turns == 0 {
+            join(&mut client, &mut self.queue)?;
+        }
+        match self.clients.push(client) {
+            Ok(()) => Ok(()),
+            Err(_) => Err(Stop::Memory),
+        }
+    }
+
+    /// Once in a while looks after clients that are idle or being left.
+    fn tick(&mut self, common: &Common<'a>) -> Result<(), Stop>
+        ensures { IfErr result (λ stop. 2 ≤ status_of stop) }
+    {
+        if !self.is_ticking(common.setting) {
+            return Ok(());
+        }
+        let Ok(now) = Instant::now(common.rt) else {
+            return Ok(());
+        };
+        if !is_due(now, self.ticked) {
+            return Ok(());
+        }
+        self.ticked = Some(now);
+        self.entrance.resume();
+        look_after_all(&mut self.clients, now, common.setting.idle, &mut self.queue)
+    }
+
+    /// Each client that has something left has turns, and stands behind the others then if it has more.
+    fn take_turns(&mut self, common: &Common<'a>) -> Result<(), Stop>
+        ensures { IfErr result (λ stop. 2 ≤ status_of stop) }
+    {
+        for _ in 0..self.queue.len() {
+            let Some(number) = self.queue.pop_front() else {
+                break;
+            };
+            if let Some(place) = place_of(number, &self.clients) {
+                self.take_turns_of(common, place)?;
+            }
+        }
+        Ok(())
+    }
+
+    /// The client at a place has turns.
+    fn take_turns_of(&mut self, common: &Common<'a>, place: usize) -> Result<(), Stop>
+        requires { place < vec_len self.old.clients }
+        ensures { IfErr result (λ stop. 2 ≤ status_of stop) }
+    {
+        let client = &mut self.clients[place];
+        client.is_queued = false;
+        let (remaining, outcome) = client.go_on(common, &mut self.buffer);
+        if let Some(outcome) = outcome {
+            self.leaving = self.leaving.saturating_add(1);
+            note_end(common, client, &outcome)?;
+        }
+        match remaining {
+            Remaining::More => join(client, &mut self.queue),
+            Remaining::Nothing => Ok(()),
+            Remaining::Gone => {
+                self.remove(place);
+                Ok(())
+            }
+        }
+    }
+
+    /// The client at a place is gone.
+    fn remove(&mut self, place: usize)
+        requires { place < vec_len self.old.clients }
+    {
+        self.clients.remove(place);
+        self.leaving = self.leaving.saturating_sub(1);
+    }
+}
+
+/// Whether it is time to look after clients again.
+fn is_due(now: Instant, ticked: Option<Instant>) -> bool {
+    match ticked {
+        Some(ticked) => now.duration_since(ticked) >= Duration::from_secs(TICK),
+        None => true,
+    }
+}
+
+/// Notes how serving a client ended. Want of memory stops the program only where there is one place for clients.
+fn note_end(common: &Common<'_>, client: &Client<'_>, outcome: &Outcome) -> Result<(), Stop>
+    ensures { IfErr result (λ stop. 2 ≤ status_of stop) }
+{
+    if matches!(outcome, Err(ServeFault::Memory)) {
+        if common.setting.clients == 1 {
+            return Err(Stop::Memory);
+        }
+        say_refused(common.rt, Why::Memory);
+    }
+    if common.setting.is_logged {
+        say_ended(common.rt, client, outcome);
+    }
+    Ok(())
+}
+
+/// The place of a client among clients by rising number.
+fn place_of(number: u32, clients: &[Client<'_>]) -> Option<usize>
+    ensures within { IfSome result (λ place. place < length clients.now) }
+    ensures found { IfSome result (λ place. (other : Client) → (get_or clients.now place other).number ≡ number) }
+{
+    clients
+        .binary_search_by_key(&number, |client| client.number)
+        .ok()
+}
+
+/// A client joins those that have something left, if it doesn't stand among them.
+fn join(client: &mut Client<'_>, queue: &mut VecDeque<u32>) -> Result<(), Stop>
+    ensures { IfErr result (λ stop. 2 ≤ status_of stop) }
+{
+    if client.is_queued {
+        return Ok(());
+    }
+    client.is_queued = true;
+    queue.push_back(client.number).map_err(|_| Stop::Memory)
+}
+
+/// Looks after all of these.
+fn look_after_all(
+    clients: &mut [Client<'_>],
+    now: Instant,
+    idle_seconds: u32,
+    queue: &mut VecDeque<u32>,
+) -> Result<(), Stop>
+    ensures { IfErr result (λ stop. 2 ≤ status_of stop) }
+{
+    for client in clients {
+        look_after(client, now, idle_seconds, queue)?;
+    }
+    Ok(())
+}
+
+/// A client that is being left goes on with that, and one that is idle for too long is ended.
+fn look_after(
+    client: &mut Client<'_>,
+    now: Instant,
+    idle_seconds: u32,
+    queue: &mut VecDeque<u32>,
+) -> Result<(), Stop>
+    ensures { IfErr result (λ stop. 2 ≤ status_of stop) }
+{
+    if client.is_left() {
+        return join(client, queue);
+    }
+    if idle_seconds > 0 {
+        client.watch(now, Duration::from_secs(u64::from(idle_seconds)));
+    }
+    Ok(())
+}

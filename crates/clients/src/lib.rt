@@ -1,0 +1,13 @@
+//! The clients of a program at a listener: one after another, or several at once on one thread, and what is logged of them.
+//! Tests stand in `clients_tests`.
+#![tactic(auto)]
+
+mod client;
+mod crowd;
+mod entrance;
+mod listening;
+mod log;
+mod watched;
+
+pub use crowd::serve_crowd;
+pub use listening::{serve_at, serve_clients};

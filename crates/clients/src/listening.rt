@@ -1,0 +1,79 @@
+//! The connections of clients.
+
+ghost use Rattle.std.specs.Prelude.{◌≤◌, IfErr};
+ghost use Rattle.gateway.specs.Setups.{setup_of, IsServable};
+ghost use Rattle.h2gw_parts.specs.Stops.{status_of};
+
+use crate::crowd::serve_crowd;
+use h2gw_parts::setting::Setting;
+use h2gw_parts::stops::Stop;
+use mio::net::TcpStream as Socket;
+use sockets::SocketWorld;
+use std::io::ErrorKind;
+use std::net::{TcpListener, TcpStream};
+use worlds::{ServeFault, serve};
+
+/// Says where clients connect to, and serves their connections, so many at once as the setting says.
+pub fn serve_clients(rt: &HostRuntime, setting: &Setting) -> Result<(), Stop>
+    requires { IsServable (setup_of setting.now.config) }
+    ensures { IfErr result (λ stop. 2 ≤ status_of stop) }
+{
+    let Ok(listener) = TcpListener::bind(rt, setting.listen) else {
+        return Err(Stop::Bind);
+    };
+    let Ok(address) = listener.local_addr() else {
+        return Err(Stop::Bind);
+    };
+    println!(rt; "listening {address}").map_err(|_| Stop::Print)?;
+    if is_plain(setting) {
+        serve_at(rt, setting, &listener)
+    } else {
+        serve_crowd(rt, setting, listener)
+    }
+}
+
+/// Whether one client is served after another, however long it says nothing, and none is told of. This is the default, and has a way of its own (`serve_at`), which
+/// is the program's as it was first described: one client waits for another, an error of accept ends the program, and there is no reactor.
+fn is_plain(setting: &Setting) -> bool {
+    setting.clients == 1 && setting.idle == 0 && !setting.is_logged
+}
+
+/// Serves the connections of clients at a listener, one after another.
+pub fn serve_at(rt: &HostRuntime, setting: &Setting, listener: &TcpListener) -> Result<(), Stop>
+    requires { IsServable (setup_of setting.now.config) }
+    ensures { IfErr result (λ stop. 2 ≤ status_of stop) }
+{
+    for _connection in 0..setting.connections {
+        match listener.accept() {
+            Ok((client, _address)) => serve_client(rt, setting, client)?,
+            // The client went before its connection was accepted.
+            Err(error) if error.kind() == ErrorKind::ConnectionAborted => {}
+            Err(_) => return Err(Stop::Accept),
+        }
+    }
+    Ok(())
+}
+
+/// Serves the connection of a client. That one fails ends it alone, unless no memory was left.
+fn serve_client(rt: &HostRuntime, setting: &Setting, client: TcpStream) -> Result<(), Stop>
+    requires { IsServable (setup_of setting.now.config) }
+    ensures { IfErr result (λ stop. 2 ≤ status_of stop) }
+{
+    if client.set_nonblocking(true).is_err() {
+        return Ok(());
+    }
+    let client = Socket::from_std(client);
+    let mut world = match SocketWorld::new(rt.alloc(), rt, &setting.addresses, client) {
+        Ok(world) => world,
+        Err(error) if error.kind() == ErrorKind::OutOfMemory => return Err(Stop::Memory),
+        Err(_) => return Ok(()),
+    };
+    let turns = u64::from(setting.turns);
+    let ended = serve(rt.alloc(), &setting.config, &mut world, turns);
+    // Where that fails the client has gone.
+    let _ = world.finish();
+    match ended {
+        Err(ServeFault::Memory) => Err(Stop::Memory),
+        Ok(_) | Err(ServeFault::World | ServeFault::NotAdmitted(_)) => Ok(()),
+    }
+}

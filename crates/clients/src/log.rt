@@ -1,0 +1,128 @@
+//! What is said of clients and of exchanges with upstreams on standard error. A write that fails stops nothing; one that waits stops all until it is done.
+
+ghost use Rattle.std.specs.Prelude.{◌≡◌};
+
+use crate::client::{Client, Common, Outcome, WatchedSockets};
+use crate::entrance::Why;
+use exchange_log::{End, Exchange, Over};
+use gateway::Passing;
+use std::net::SocketAddr;
+use std::time::Instant;
+use worlds::{Ended, ServeFault};
+
+/// So many exchanges at most are said at once; those behind them are said the next time.
+const SAID_AT_ONCE: u32 = 1024;
+
+/// Says why a client can't be served.
+pub fn say_refused(rt: &HostRuntime, why: Why) {
+    let line = match why {
+        Why::Files => "clients: too many open files",
+        Why::Memory => "clients: no memory",
+        Why::Unwatched => "clients: a connection can't be watched",
+    };
+    let _ = rt.eprintln(line);
+}
+
+/// Says how long ago a client was accepted, how serving it ended, and how many streams it opened.
+pub fn say_ended(rt: &HostRuntime, client: &Client<'_>, outcome: &Outcome) {
+    let millis = millis_since(rt, client.came);
+    let words = words_of(outcome);
+    let (number, address, opened) = (client.number, client.address, client.opened);
+    let _ = eprintln!(rt;
+        "client {number} {address}: accepted {millis} ms ago, {words}, streams {opened}"
+    );
+}
+
+/// How serving a client ended, in words.
+fn words_of(outcome: &Outcome) -> &'static str {
+    match outcome {
+        Ok(Ended::Closed | Ended::Over) => "ended",
+        Ok(Ended::Turns) => "all turns taken",
+        Err(ServeFault::World) => "connection failed",
+        Err(ServeFault::Memory) => "no memory",
+        Err(ServeFault::NotAdmitted(_)) => "not admitted",
+    }
+}
+
+/// How many milliseconds ago this was; 0 where no clock tells.
+fn millis_since(rt: &HostRuntime, then: Instant) -> u128 {
+    match Instant::now(rt) {
+        Ok(now) => now.duration_since(then).as_millis(),
+        Err(_) => 0,
+    }
+}
+
+/// Says which exchanges of a client are over, each in one line.
+pub fn say_exchanges(
+    common: &Common<'_>,
+    number: u32,
+    address: SocketAddr,
+    sockets: &mut WatchedSockets<'_>,
+)
+    ensures { sockets.new.world ≡ sockets.old.world }
+{
+    for _ in 0..SAID_AT_ONCE {
+        let Some(over) = sockets.next_over() else {
+            break;
+        };
+        say_over(common, number, address, &over);
+    }
+}
+
+/// Says of an exchange of a client that is over with which upstream it was, what the request line is, which status came, how many octets went out and came, how
+/// long it took, and how it ended. No field is said.
+fn say_over(common: &Common<'_>, number: u32, address: SocketAddr, over: &Over) {
+    let Some(upstream) = common.setting.addresses.get(over.route as usize) else {
+        return;
+    };
+    let exchange = &over.exchange;
+    let Ok(line) = str::from_utf8(exchange.line()) else {
+        return;
+    };
+    let millis = millis_of(common.rt, exchange);
+    let status = exchange.status().unwrap_or(0);
+    let (sent, received) = (exchange.sent(), exchange.received());
+    let words = words_of_end(over.end);
+    let by = if is_answered_here(common, over) {
+        ", answered by the gateway"
+    } else {
+        ""
+    };
+    let _ = eprintln!(common.rt;
+        "client {number} {address}: {upstream} {line}: {status}, {sent} octets out, {received} in, {millis} ms, {words}{by}"
+    );
+}
+
+/// For how many milliseconds an exchange went on.
+fn millis_of(rt: &HostRuntime, exchange: &Exchange) -> u128 {
+    match exchange.begun() {
+        Some(begun) => millis_since(rt, begun),
+        None => 0,
+    }
+}
+
+/// How an exchange ended, in words. It is given up where the gateway closes its connection: the client gave the request up or went, the request was refused, or
+/// serving the client ended.
+fn words_of_end(end: End) -> &'static str {
+    match end {
+        End::Whole => "whole",
+        End::Refused => "refused",
+        End::Reset => "reset",
+        End::EndedEarly => "ended early",
+        End::NoResponse => "no response",
+        End::Malformed => "not a response",
+        End::TooLong => "too long",
+        End::GivenUp => "given up",
+    }
+}
+
+/// Whether the client is answered by the gateway itself, since nothing of the response was passed on.
+fn is_answered_here(common: &Common<'_>, over: &Over) -> bool {
+    match over.end {
+        End::Whole | End::GivenUp => false,
+        _ => {
+            matches!(common.setting.config.passing, Passing::Whole)
+                || over.exchange.status().is_none()
+        }
+    }
+}

@@ -1,0 +1,173 @@
+//! A world whose exchanges with upstreams are noted, or aren't.
+
+ghost use Rattle.std.specs.Prelude.{◌≡◌, ◌+◌, ◌<◌, ◌^◌, ◌∷◌, ◌++◌, [], true, List, Some, is_ok, IfOk, OnOk, OnErr, if◌then◌else◌};
+ghost use Rattle.model.specs.Logs.{Step};
+ghost use Rattle.outputs.specs.Views.{output_of};
+ghost use Rattle.worlds.specs.Worlds.{AddsEvent, AddsHanded, SaysOver, KeepsRooms, with_outputs};
+
+use exchange_log::{Exchanges, Over};
+use gateway::{Event, Output};
+use std::alloc::AllocError;
+use std::time::{Clock, Instant};
+use worlds::{Next, World, WorldFault};
+
+/// A world, and its exchanges where they are noted.
+#[derive(Drop)]
+pub struct Watched<'a, C: Clock, W: Drop> {
+    /// The world.
+    pub world: W,
+    clock: &'a C,
+    /// None where they aren't noted, or where memory for that was refused.
+    exchanges: Option<Exchanges>,
+}
+
+/// Notes what happens.
+fn note_event(exchanges: &mut Exchanges, event: &Event) -> Result<(), AllocError> {
+    match event {
+        Event::Up(k, octets) => exchanges.hear(*k, octets),
+        Event::UpEnd(k) => exchanges.end(*k),
+        Event::UpFailed(k) => exchanges.fail(*k),
+        Event::UpTook(k, _) => {
+            exchanges.take(*k);
+            Ok(())
+        }
+        Event::Client(_) | Event::ClientEnd | Event::ClientTook(_) => Ok(()),
+    }
+}
+
+/// Notes what is put out.
+fn note_output(
+    exchanges: &mut Exchanges,
+    output: &Output,
+    now: Option<Instant>,
+) -> Result<(), AllocError> {
+    match output {
+        Output::Open(k, route) => exchanges.open(*k, *route),
+        Output::Up(k, text) => exchanges.put(*k, text.as_slice(), now),
+        Output::Close(k) => exchanges.close(*k),
+        Output::Client(_) | Output::CloseClient => Ok(()),
+    }
+}
+
+impl<'a, C: Clock, W: World + Drop> Watched<'a, C, W> {
+    /// A world whose exchanges are noted in these from now on, where there are some.
+    pub fn new(clock: &'a C, world: W, exchanges: Option<Exchanges>) -> Watched<'a, C, W>
+        ensures { result.world ≡ world }
+    {
+        Watched {
+            world,
+            clock,
+            exchanges,
+        }
+    }
+
+    /// The next exchange that is over and wasn't told yet.
+    pub fn next_over(&mut self) -> Option<Over>
+        ensures { self.new.world ≡ self.old.world }
+    {
+        match &mut self.exchanges {
+            Some(exchanges) => exchanges.next_over(),
+            None => None,
+        }
+    }
+
+    /// All open connections are closed: their exchanges are given up.
+    pub fn abandon(&mut self)
+        ensures { self.new.world ≡ self.old.world }
+    {
+        if let Some(exchanges) = &mut self.exchanges {
+            // Where memory is refused for that, those that are over by then are told.
+            let _ = exchanges.close_all();
+        }
+    }
+
+    /// The world, whose exchanges aren't noted any more.
+    pub fn into_world(self) -> W
+        ensures { result ≡ self.entry.world }
+    {
+        let Watched { world, .. } = self;
+        world
+    }
+
+    /// Notes what happens.
+    fn note_event(&mut self, event: &Event)
+        ensures { self.new.world ≡ self.old.world }
+    {
+        let Some(exchanges) = &mut self.exchanges else {
+            return;
+        };
+        if note_event(exchanges, event).is_err() {
+            self.exchanges = None;
+        }
+    }
+
+    /// What the clock tells where octets are put out for an upstream with which an exchange begins.
+    fn now_for(&self, output: &Output) -> Option<Instant> {
+        match (output, &self.exchanges) {
+            (Output::Up(k, _), Some(exchanges)) if exchanges.is_idle(*k) => {
+                Instant::now(self.clock).ok()
+            }
+            _ => None,
+        }
+    }
+
+    /// Notes what is put out.
+    fn note_output(&mut self, output: &Output)
+        ensures { self.new.world ≡ self.old.world }
+    {
+        let now = self.now_for(output);
+        let Some(exchanges) = &mut self.exchanges else {
+            return;
+        };
+        if note_output(exchanges, output, now).is_err() {
+            self.exchanges = None;
+        }
+    }
+}
+
+impl<'a, C: Clock, W: World + Drop> World for Watched<'a, C, W> {
+    ghost calls = { λ watched. W.calls watched.world };
+
+    ghost failures = { λ watched. W.failures watched.world };
+
+    ghost over = { λ watched. W.over watched.world };
+
+    ghost log = { λ watched. W.log watched.world };
+
+    ghost handed = { λ watched. W.handed watched.world };
+
+    ghost keeps_rooms = { λ watched. W.keeps_rooms watched.world };
+
+    fn next(&mut self, rooms: &[(u32, usize)]) -> Result<Next, WorldFault>
+        requires calls { W.calls self.old.world + 1 < 2 ^ 64 }
+        requires failures { W.failures self.old.world + 1 < 2 ^ 64 }
+        ensures calls { W.calls self.new.world ≡ W.calls self.old.world + 1 }
+        ensures failures { W.failures self.new.world ≡ (if is_ok result then W.failures self.old.world else W.failures self.old.world + 1) }
+        ensures over { IfOk result (λ next. SaysOver next (W.over self.new.world)) }
+        ensures log { IfOk result (λ next. AddsEvent (W.log self.old.world) next (W.log self.new.world)) }
+        ensures handed { OnOk result (AddsHanded (W.log self.old.world) (W.handed self.old.world) rooms.now (W.handed self.new.world)) }
+        ensures err { OnErr result ((W.log self.new.world ≡ W.log self.old.world) × (W.handed self.new.world ≡ W.handed self.old.world)) }
+        ensures rooms { W.keeps_rooms self.old.world ≡ true → IfOk result (λ next. KeepsRooms rooms.now next) }
+        ensures keeps_rooms { W.keeps_rooms self.new.world ≡ W.keeps_rooms self.old.world }
+    {
+        let next = self.world.next(rooms)?;
+        if let Next::Happened(event) = &next {
+            self.note_event(event);
+        }
+        Ok(next)
+    }
+
+    fn apply(&mut self, output: &Output) -> Result<(), WorldFault>
+        requires { W.failures self.old.world + 1 < 2 ^ 64 }
+        ensures calls { W.calls self.new.world ≡ W.calls self.old.world }
+        ensures failures { W.failures self.new.world ≡ (if is_ok result then W.failures self.old.world else W.failures self.old.world + 1) }
+        ensures log { OnOk result ((before : List Step) (step : Step) → W.log self.old.world ≡ Some (before ++ step ∷ []) → W.log self.new.world ≡ Some (before ++ with_outputs step (output_of output.now ∷ []) ∷ [])) }
+        ensures err { OnErr result (W.log self.new.world ≡ W.log self.old.world) }
+        ensures handed { W.handed self.new.world ≡ W.handed self.old.world }
+        ensures over { W.over self.new.world ≡ W.over self.old.world }
+        ensures keeps_rooms { W.keeps_rooms self.new.world ≡ W.keeps_rooms self.old.world }
+    {
+        self.note_output(output);
+        self.world.apply(output)
+    }
+}

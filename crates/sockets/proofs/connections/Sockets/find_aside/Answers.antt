@@ -1,0 +1,23 @@
+use Rattle.std.specs.Prelude.{None, Ok}
+use Rattle.sockets.proofs.Moving.{moves_quiet, moves_twice, moves_failed}
+use Rattle.sockets.proofs.connections.Sockets.find_aside.Goals as goal
+
+pub returns-then-self-eq0-clause-moves : goal.returns-then-self-eq0-clause-moves
+returns-then-self-eq0-clause-moves g c =
+    moves_twice _ _ _ _ _ _ _ _ _ c.look.ensures.moves c.read_ready.ensures.moves
+
+pub returns-in_err-look-clause-moves : goal.returns-in_err-look-clause-moves
+returns-in_err-look-clause-moves g c = moves_failed _ _ c.from_residual.result _ _ _ _ c.from_residual.ensures.0 c.look.ensures.moves
+
+pub returns-in_err-look_ahead-clause-moves : goal.returns-in_err-look_ahead-clause-moves
+returns-in_err-look_ahead-clause-moves g c =
+    let told = moves_quiet _ _ c.tell_in_turn.result _ _ _ _ c.in_default.is c.tell_in_turn.ensures.moves in
+    moves_failed _ _ c.from_residual-in_err-look_ahead.result _ _ _ _ c.from_residual-in_err-look_ahead.ensures.0 (moves_twice _ _ (Ok None) _ _ _ _ _ _ told c.look_ahead.ensures.moves)
+
+pub returns-clause-moves : goal.returns-clause-moves
+returns-clause-moves g c =
+    let told = moves_quiet _ _ c.tell_in_turn.result _ _ _ _ c.in_default.is c.tell_in_turn.ensures.moves in
+    moves_twice _ _ (Ok None) _ _ _ _ _ _ told c.look_ahead.ensures.moves
+
+pub returns-in-Some-clause-fits : goal.returns-in-Some-clause-fits
+returns-in-Some-clause-fits g c = rw c.in-Some.is at c.tell_in_turn.ensures.fits c.args.rooms.now

@@ -1,0 +1,10 @@
+use Rattle.std.specs.Prelude.{None, Ok}
+use Rattle.sockets.specs.Performed.{MovesOn}
+use Rattle.sockets.specs.Queues.{HasQueued}
+use Rattle.sockets.proofs.connections.Sockets.read_ready.Given as goal
+
+abbrev pub invariant-loop : goal.invariant-loop
+invariant-loop g l = record {
+  moves : MovesOn g.S.Socket.left g.S.Socket.held (Ok None) l.fn.self.client l.fn.self.upstreams.items l.self.client l.self.upstreams.items;
+  queued : HasQueued l.fn.self → HasQueued l.self;
+}

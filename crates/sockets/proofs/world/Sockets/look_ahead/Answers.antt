@@ -1,5 +1,0 @@
-use Rattle.sockets.proofs.Moving.{moves_still}
-use Rattle.sockets.proofs.world.Sockets.look_ahead.Goals as goal
-
-pub returns-clause-moves : goal.returns-clause-moves
-returns-clause-moves g c = moves_still _ _ _ _

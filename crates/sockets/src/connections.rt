@@ -1,0 +1,592 @@
+//! The sockets of one client and of the upstreams that are opened for it: who is read next, what was taken, and what an output does.
+
+ghost use Rattle.std.specs.Prelude.{◌≡◌, ◌+◌, ◌<◌, ℕ, None, Option, Some, Ok, Err, [], false, true, List, IfSome, IfOk, IsOkAnd, OnOk, OnErr, ◌&&◌, ◌||◌, not, slice_get};
+ghost use Rattle.sockets.specs.Performed.{AreRising, IsOpenNowhere, Opens, Changes, SendsTo, Performs, Leaves, MovesOn, Fits, client_heard, got_news, IsWithin, is_failed};
+ghost use Rattle.sockets.specs.Tokens.{number_of_client, token_number, IsOfAnother};
+ghost use Rattle.sockets.specs.Queues.{Grows, IsClientListed, HasQueued, HadQueued, OpensAnew, client_last, is_behind};
+ghost use Rattle.sockets.specs.Sides.{no_news, lost_news, IsBegun, IsNew, Goes, SendsFront, may_go_on, may_be_ready, may_read};
+ghost use Rattle.std.specs.List.{Contains};
+
+use crate::buffer::Buffer;
+use crate::departure::{drop_piece, write_rest};
+use crate::leaving::Leaving;
+use crate::queues::{heed, heed_all, join_ready, list, place_of};
+use crate::reporting::{Reporting, number_in};
+use crate::rooms::room_of;
+use crate::side::Side;
+use crate::upstream::Upstream;
+use crate::wire::Wire;
+use gateway::{Event, Output};
+use mio::Events;
+use mio::event::Event as Report;
+use std::alloc::Global;
+use std::collections::VecDeque;
+use std::io;
+use std::io::ErrorKind;
+use std::net::{Net, SocketAddr};
+use std::time::{Clock, Duration, Instant};
+use transfers::{Got, PutFault};
+use worlds::WorldFault;
+
+/// While more octets than this for the client weren't told of as taken, nothing of it is read.
+const MOST_OWED: u64 = 1073741824;
+
+/// From so many octets for the client on that wait they are written at once, and else before the world waits.
+const WRITTEN_AT_ONCE: usize = 32768;
+
+/// From so many octets on that the client took it is told at once, and else before the world waits.
+const TOLD_AT_ONCE: u64 = 16384;
+
+/// The client's number among the sockets. Connections to upstreams count from 1.
+const CLIENT: u32 = 0;
+
+/// Of so many turns one begins with a look at all sockets, and one in the middle with what they took, though something else is there: so none keeps the
+/// others from theirs.
+const ROUND: u32 = 64;
+
+/// In so many turns a client is left at most.
+const MOST_TURNS_LEAVING: u32 = 10_000_000;
+
+/// The sockets, and what is kept of them from turn to turn.
+#[derive(Drop)]
+pub(crate) struct Sockets<'a, N: Net + Clock, S> {
+    alloc: Global,
+    net: &'a N,
+    pub(crate) addresses: &'a [SocketAddr],
+    pub(crate) reporting: Reporting<'a>,
+    pub(crate) client: Side<S>,
+    /// The client stands among the sockets of which something may be read.
+    is_client_queued: bool,
+    /// By rising number.
+    pub(crate) upstreams: Vec<Upstream<S>>,
+    /// The numbers of the sockets of which something may be read, the next one at the front. Some may be closed.
+    pub(crate) ready: VecDeque<u32>,
+    /// The numbers of the upstreams that may have taken octets of which wasn't told, likewise.
+    writes: VecDeque<u32>,
+    pub(crate) buffer: Buffer,
+    /// How many turns there were, from 0 on again behind the last number.
+    turns: u32,
+    /// Octets came of the client since all sockets were last looked at.
+    is_client_heard: bool,
+}
+
+impl<'a, N: Net + Clock, S: Wire> Sockets<'a, N, S> {
+    /// The socket of a client, which is reported from now on, and no others.
+    pub(crate) fn new(
+        alloc: Global,
+        net: &'a N,
+        addresses: &'a [SocketAddr],
+        reporting: Reporting<'a>,
+        buffer: Buffer,
+        client: S,
+    ) -> io::Result<Sockets<'a, N, S>>
+        ensures addresses { IfOk result (λ sockets. sockets.addresses.now ≡ addresses.now) }
+        ensures reporting { IfOk result (λ sockets. sockets.reporting ≡ reporting.entry) }
+        ensures nothing { IfOk result (λ sockets. IsBegun (token_number (number_of_client reporting.entry) 0) sockets.client × (sockets.upstreams.items ≡ [])) }
+        ensures queued { IfOk result (λ sockets. HasQueued sockets) }
+    {
+        let token = reporting.token_of(CLIENT);
+        let client = Side::new(alloc, reporting.registry(), client, token, WRITTEN_AT_ONCE)?;
+        Ok(Sockets {
+            alloc,
+            net,
+            addresses,
+            reporting,
+            client,
+            is_client_queued: false,
+            upstreams: Vec::new(alloc),
+            ready: VecDeque::new(alloc),
+            writes: VecDeque::new(alloc),
+            buffer,
+            turns: 0,
+            is_client_heard: false,
+        })
+    }
+
+    /// What comes next. Where nothing is there the world waits once, until something is reported, unless it is told of that.
+    pub(crate) fn find_next(&mut self, rooms: &[(u32, usize)]) -> Result<Option<Event>, WorldFault>
+        ensures moves { MovesOn S.left S.held result self.old.client self.old.upstreams.items self.new.client self.new.upstreams.items }
+        ensures fits { IfOk result (λ event. Fits rooms.now event) }
+        ensures queued { OnOk result (HasQueued self.old → HasQueued self.new) }
+    {
+        if let Some(event) = self.find_aside(rooms)? {
+            return Ok(Some(event));
+        }
+        if let Some(event) = self.find_event(rooms)? {
+            return Ok(Some(event));
+        }
+        if self.reporting.is_shared() {
+            return Ok(None);
+        }
+        self.look(None)?;
+        self.find_event(rooms)
+    }
+
+    /// In some turns an event that else would have to wait as long as others are there: of a socket that wasn't looked at yet, or what was taken.
+    fn find_aside(&mut self, rooms: &[(u32, usize)]) -> Result<Option<Event>, WorldFault>
+        ensures moves { MovesOn S.left S.held result self.old.client self.old.upstreams.items self.new.client self.new.upstreams.items }
+        ensures fits { IfOk result (λ event. Fits rooms.now event) }
+        ensures queued { OnOk result (HasQueued self.old → HasQueued self.new) }
+    {
+        self.turns = self.turns.wrapping_add(1);
+        if self.turns % ROUND == 0 {
+            self.look(Some(Duration::ZERO))?;
+            return self.read_ready(rooms);
+        }
+        if let Some(event) = self.tell_in_turn() {
+            return Ok(Some(event));
+        }
+        self.look_ahead()?;
+        Ok(None)
+    }
+
+    /// In some turns what sockets took that wasn't told of, if they took some.
+    fn tell_in_turn(&mut self) -> Option<Event>
+        ensures moves { MovesOn S.left S.held (Ok result) self.old.client self.old.upstreams.items self.new.client self.new.upstreams.items }
+        ensures fits { (rooms : List (ℕ × ℕ)) → Fits rooms result }
+        ensures queued { HasQueued self.old → HasQueued self.new }
+    {
+        if self.turns % ROUND == ROUND / 2 {
+            return self.tell();
+        }
+        None
+    }
+
+    /// Looks at all sockets before the client is read again, where connections are open: one that its server ended while it was idle is closed before a request
+    /// comes that would go out on it.
+    fn look_ahead(&mut self) -> Result<(), WorldFault>
+        ensures moves { MovesOn S.left S.held (Ok None) self.old.client self.old.upstreams.items self.new.client self.new.upstreams.items }
+        ensures queued { OnOk result (HasQueued self.old → HasQueued self.new) }
+    {
+        if self.is_behind() {
+            return self.look(Some(Duration::ZERO));
+        }
+        Ok(())
+    }
+
+    /// Whether the client is to be read again, and all sockets weren't looked at since it was read, though connections are open.
+    pub(crate) fn is_behind(&self) -> bool
+        ensures { result ≡ is_behind self.now }
+    {
+        self.is_client_heard && self.is_client_queued && !self.upstreams.is_empty()
+    }
+
+    /// An event that is there already. Where nothing may be read any more, what waits for the client is written.
+    fn find_event(&mut self, rooms: &[(u32, usize)]) -> Result<Option<Event>, WorldFault>
+        ensures moves { MovesOn S.left S.held result self.old.client self.old.upstreams.items self.new.client self.new.upstreams.items }
+        ensures fits { IfOk result (λ event. Fits rooms.now event) }
+        ensures queued { OnOk result (HasQueued self.old → HasQueued self.new) }
+    {
+        let count = self.client.tell(TOLD_AT_ONCE);
+        if count > 0 {
+            return Ok(Some(Event::ClientTook(count)));
+        }
+        if let Some(event) = self.read_ready(rooms)? {
+            return Ok(Some(event));
+        }
+        self.client.flush(self.reporting.registry())?;
+        Ok(self.tell())
+    }
+
+    /// The event that a read gives, of the first socket in turn whose read gives one.
+    fn read_ready(&mut self, rooms: &[(u32, usize)]) -> Result<Option<Event>, WorldFault>
+        ensures moves { MovesOn S.left S.held result self.old.client self.old.upstreams.items self.new.client self.new.upstreams.items }
+        ensures fits { IfOk result (λ event. Fits rooms.now event) }
+        ensures queued { OnOk result (HasQueued self.old → HasQueued self.new) }
+    {
+        for _ in 0..self.ready.len() {
+            let Some(number) = self.ready.pop_front() else {
+                return Ok(None);
+            };
+            let event = self.read(number, rooms)?;
+            if event.is_some() {
+                return Ok(event);
+            }
+        }
+        Ok(None)
+    }
+
+    /// The event that a read of a socket gives, if it gives one.
+    fn read(&mut self, number: u32, rooms: &[(u32, usize)]) -> Result<Option<Event>, WorldFault>
+        ensures moves { MovesOn S.left S.held result self.old.client self.old.upstreams.items self.new.client self.new.upstreams.items }
+        ensures fits { IfOk result (λ event. Fits rooms.now event) }
+        ensures queued { OnOk result (HadQueued number self.old → HasQueued self.new) }
+    {
+        if number == CLIENT {
+            self.read_client()
+        } else {
+            self.read_upstream(number, rooms)
+        }
+    }
+
+    /// The event that a read of an upstream gives, if it gives one. Then, and where there is no room, its next turn comes behind
+    /// those of the others.
+    fn read_upstream(
+        &mut self,
+        number: u32,
+        rooms: &[(u32, usize)],
+    ) -> Result<Option<Event>, WorldFault>
+        ensures moves { MovesOn S.left S.held result self.old.client self.old.upstreams.items self.new.client self.new.upstreams.items }
+        ensures fits { IfOk result (λ event. Fits rooms.now event) }
+        ensures queued { OnOk result (0 < number → HadQueued number self.old → HasQueued self.new) }
+    {
+        let Some(place) = place_of(number, &self.upstreams) else {
+            return Ok(None);
+        };
+        let room = room_of(number, rooms);
+        let upstream = &mut self.upstreams[place];
+        let event = self.buffer.read_in_turn(self.alloc, upstream, room)?;
+        if is_failure(&event) {
+            self.upstreams.remove(place);
+        } else {
+            join_ready(upstream, &mut self.ready)?;
+        }
+        Ok(event)
+    }
+
+    /// The event that a read of the client's socket gives, if it gives one.
+    fn read_client(&mut self) -> Result<Option<Event>, WorldFault>
+        ensures upstreams { self.new.upstreams ≡ self.old.upstreams }
+        ensures moves { MovesOn S.left S.held result self.old.client self.old.upstreams.items self.new.client self.new.upstreams.items }
+        ensures fits { IfOk result (λ event. (rooms : List (ℕ × ℕ)) → Fits rooms event) }
+        ensures queued { OnOk result (HadQueued 0 self.old → HasQueued self.new) }
+    {
+        self.is_client_queued = false;
+        let got = self.read_of_client()?;
+        self.is_client_heard = self.is_client_heard || matches!(got, Got::Octets(_));
+        self.queue_client()?;
+        Ok(client_event(got))
+    }
+
+    /// What a read of the client's socket gives: nothing where there is nothing to be read, or too much that was put out isn't told of as taken.
+    fn read_of_client(&mut self) -> Result<Got, WorldFault>
+        ensures upstreams { self.new.upstreams ≡ self.old.upstreams }
+        ensures told { IfOk result (λ got. Goes S.left S.held (got_news got) self.old.client self.new.client) }
+        ensures lost { OnErr result (Goes S.left S.held lost_news self.old.client self.new.client) }
+        ensures fits { IfOk result (λ got. IsWithin 65536 got) }
+        ensures read { may_read 1073741824 self.old.client ≡ true → IfOk result (λ got. self.new.client.readable ≡ may_go_on got) }
+        ensures unread { may_read 1073741824 self.old.client ≡ false → IsOkAnd result (λ got. got ≡ Got.Nothing) × (self.new.client ≡ self.old.client) }
+        ensures queues { (self.new.ready ≡ self.old.ready) × (self.new.writes ≡ self.old.writes) × (self.new.is_client_queued ≡ self.old.is_client_queued) }
+    {
+        if self.may_read_client() {
+            return Ok(self.buffer.read(self.alloc, &mut self.client)?);
+        }
+        Ok(Got::Nothing)
+    }
+
+    /// Whether the client is read: something may be read of it, and not too much that was put out isn't told of as taken.
+    fn may_read_client(&self) -> bool
+        ensures { result ≡ may_read 1073741824 self.now.client }
+    {
+        self.client.is_readable() && !self.client.owes_more_than(MOST_OWED)
+    }
+
+    /// The client joins the sockets of which something may be read, if something may.
+    fn queue_client(&mut self) -> Result<(), WorldFault>
+        ensures upstreams { self.new.upstreams ≡ self.old.upstreams }
+        ensures client { self.new.client ≡ self.old.client }
+        ensures writes { self.new.writes ≡ self.old.writes }
+        ensures ready { Grows self.old.ready.items self.new.ready.items }
+        ensures listed { OnOk result ((self.old.is_client_queued ≡ true → Contains self.old.ready.items 0) → IsClientListed self.new.ready.items self.new.is_client_queued self.new.client) }
+    {
+        if self.client_joins() {
+            self.is_client_queued = true;
+            self.ready.push_back(CLIENT)?;
+        }
+        Ok(())
+    }
+
+    /// Whether the client joins the sockets of which something may be read: something may, and it doesn't stand among them.
+    fn client_joins(&self) -> bool
+        ensures { result ≡ (not self.now.is_client_queued && may_be_ready (Some self.now.client)) }
+    {
+        !self.is_client_queued && self.client.is_readable()
+    }
+
+    /// What sockets took that wasn't told of, if they took some: upstreams first, since each of them is told of once in a while.
+    fn tell(&mut self) -> Option<Event>
+        ensures moves { MovesOn S.left S.held (Ok result) self.old.client self.old.upstreams.items self.new.client self.new.upstreams.items }
+        ensures fits { (rooms : List (ℕ × ℕ)) → Fits rooms result }
+        ensures queued { HasQueued self.old → HasQueued self.new }
+    {
+        for _ in 0..self.writes.len() {
+            let k = self.writes.pop_front()?;
+            if let Some(place) = place_of(k, &self.upstreams) {
+                let count = self.upstreams[place].tell();
+                if count > 0 {
+                    return Some(Event::UpTook(k, count));
+                }
+            }
+        }
+        match self.client.tell(1) {
+            0 => None,
+            count => Some(Event::ClientTook(count)),
+        }
+    }
+
+    /// Waits until a socket is reported, at most so long where that is said, notes what is, and writes what waits for those that take octets again. A world that
+    /// is told what is reported doesn't wait.
+    fn look(&mut self, most: Option<Duration>) -> Result<(), WorldFault>
+        ensures moves { MovesOn S.left S.held (Ok None) self.old.client self.old.upstreams.items self.new.client self.new.upstreams.items }
+        ensures queued { OnOk result (HasQueued self.old → HasQueued self.new) }
+    {
+        let Reporting::Own(own) = &mut self.reporting else {
+            return Ok(());
+        };
+        if own.wait(most).is_err() {
+            return Err(WorldFault {});
+        }
+        note_client(own.reports(), &mut self.client);
+        let registry = own.registry();
+        heed_all(
+            own.reports(),
+            registry,
+            &mut self.upstreams,
+            &mut self.ready,
+            &mut self.writes,
+        )?;
+        self.client.flush(registry)?;
+        self.queue_client()?;
+        self.put_client_last();
+        Ok(())
+    }
+
+    /// The client is read behind the others of which something may be read by now, wherever it stood among them.
+    pub(crate) fn put_client_last(&mut self)
+        ensures upstreams { self.new.upstreams ≡ self.old.upstreams }
+        ensures client { self.new.client ≡ self.old.client }
+        ensures writes { self.new.writes ≡ self.old.writes }
+        ensures queued { self.new.is_client_queued ≡ self.old.is_client_queued }
+        ensures heard { self.new.is_client_heard ≡ false }
+        ensures ready { self.new.ready.items ≡ client_last self.old.ready.items }
+        ensures stand { (number : ℕ) → Contains self.old.ready.items number → Contains self.new.ready.items number }
+    {
+        self.is_client_heard = false;
+        let count = self.ready.len();
+        self.ready.retain(|number| *number != CLIENT);
+        if self.ready.len() < count {
+            self.ready.push_back_reserved(CLIENT);
+        }
+    }
+
+    /// Notes what was reported of one socket, and writes what waits for it, if it takes octets again; what isn't of this client's is none of its.
+    pub(crate) fn hear(&mut self, report: &Report) -> Result<(), WorldFault>
+        ensures others { IsOfAnother report.now (number_of_client self.old.reporting) → (result ≡ Ok tt) × (self.new ≡ self.old) }
+        ensures rising { AreRising self.old.upstreams.items → AreRising self.new.upstreams.items }
+        ensures moves { MovesOn S.left S.held (Ok None) self.old.client self.old.upstreams.items self.new.client self.new.upstreams.items }
+        ensures queued { OnOk result (HasQueued self.old → HasQueued self.new) }
+    {
+        if !self.reporting.has(report.token()) {
+            return Ok(());
+        }
+        if number_in(report.token()) == CLIENT {
+            return self.hear_of_client(report);
+        }
+        heed(
+            report,
+            self.reporting.registry(),
+            &mut self.upstreams,
+            &mut self.ready,
+            &mut self.writes,
+        )
+    }
+
+    /// Notes what was reported of the client's socket, and writes what waits for it, if it takes octets again.
+    fn hear_of_client(&mut self, report: &Report) -> Result<(), WorldFault>
+        ensures upstreams { self.new.upstreams ≡ self.old.upstreams }
+        ensures moves { MovesOn S.left S.held (Ok None) self.old.client self.old.upstreams.items self.new.client self.new.upstreams.items }
+        ensures queued { OnOk result (HasQueued self.old → HasQueued self.new) }
+    {
+        self.client.note(report);
+        self.client.flush(self.reporting.registry())?;
+        self.queue_client()
+    }
+
+    /// Writes what waits for the client, and then reads and drops what comes of it until its end, unless that takes too long.
+    pub(crate) fn leave_client(&mut self) -> io::Result<()>
+        ensures closed { self.new.upstreams.items ≡ [] }
+        ensures client { Goes S.left S.held lost_news self.old.client self.new.client }
+    {
+        self.upstreams.clear();
+        let mut leaving = Leaving::begin(Instant::now(self.net)?, self.client.waiting());
+        for _ in 0..MOST_TURNS_LEAVING {
+            if self.write_rest(&mut leaving)? {
+                return Ok(());
+            }
+            let Some(most) = leaving.remaining(Instant::now(self.net)?) else {
+                return Ok(());
+            };
+            self.drop_rest(&mut leaving, most)?;
+        }
+        Ok(())
+    }
+
+    /// Writes what waits for the client, and tells it that nothing more is written once nothing waits. The answer is whether it is left: all is written, and
+    /// its end was read.
+    fn write_rest(&mut self, leaving: &mut Leaving) -> io::Result<bool>
+        ensures upstreams { self.new.upstreams ≡ self.old.upstreams }
+        ensures client { Goes S.left S.held lost_news self.old.client self.new.client }
+    {
+        write_rest(
+            &mut self.client,
+            leaving,
+            self.reporting.registry(),
+            Instant::now(self.net)?,
+        )
+    }
+
+    /// Reads and drops what comes of the client, or waits for it, at most so long.
+    fn drop_rest(&mut self, leaving: &mut Leaving, most: Duration) -> io::Result<()>
+        ensures upstreams { self.new.upstreams ≡ self.old.upstreams }
+        ensures client { Goes S.left S.held lost_news self.old.client self.new.client }
+    {
+        if !self.client.is_readable() {
+            return self.hear_client(most);
+        }
+        drop_piece(
+            self.alloc,
+            self.net,
+            &mut self.client,
+            leaving,
+            &mut self.buffer,
+        )
+    }
+
+    /// Waits until the client's socket is reported, at most so long, and notes what is. A world that is told what is reported doesn't wait.
+    fn hear_client(&mut self, most: Duration) -> io::Result<()>
+        ensures upstreams { self.new.upstreams ≡ self.old.upstreams }
+        ensures client { Goes S.left S.held no_news self.old.client self.new.client }
+    {
+        let Reporting::Own(own) = &mut self.reporting else {
+            return Ok(());
+        };
+        own.wait(Some(most))?;
+        note_client(own.reports(), &mut self.client);
+        Ok(())
+    }
+
+    /// Opens a connection to its route's address. One that can't be made fails at a later `next`.
+    fn open(&mut self, k: u32, route: u32) -> Result<(), WorldFault>
+        ensures client { self.new.client ≡ self.old.client }
+        ensures opens { OnOk result (Opens (IsNew (number_of_client self.old.reporting) k (slice_get self.old.addresses.now route)) self.old.upstreams.items self.new.upstreams.items) }
+        ensures err { OnErr result (self.new.upstreams.items ≡ self.old.upstreams.items) }
+        ensures rising { AreRising self.old.upstreams.items → AreRising self.new.upstreams.items }
+        ensures queued { OnOk result (0 < k → IsOpenNowhere k self.old.upstreams.items → HasQueued self.old → HasQueued self.new) }
+    {
+        let mut upstream = self.begin(k, address_of(route, self.addresses))?;
+        list(&mut upstream, &mut self.ready, &mut self.writes)?;
+        let place = self.upstreams.partition_point(|other| other.k < k);
+        self.upstreams.insert(place, upstream)?;
+        Ok(())
+    }
+
+    /// Begins a connection to an address, if there is one.
+    fn begin(&self, k: u32, address: Option<SocketAddr>) -> Result<Upstream<S>, WorldFault>
+        ensures new { IfOk result (IsNew (number_of_client self.now.reporting) k address) }
+        ensures unmarked { IfOk result (λ upstream. (upstream.is_queued ≡ false) × (upstream.is_listed ≡ false)) }
+    {
+        let side = match address {
+            Some(address) => self.connect(k, address)?,
+            None => None,
+        };
+        Ok(Upstream::new(k, address, side))
+    }
+
+    /// Puts octets out to an upstream, if it is open.
+    fn put(&mut self, k: u32, octets: &[u8]) -> Result<(), WorldFault>
+        ensures client { self.new.client ≡ self.old.client }
+        ensures err { OnErr result (Changes k (SendsFront S.left S.held octets.now) self.old.upstreams.items self.new.upstreams.items) }
+        ensures sends { OnOk result (AreRising self.old.upstreams.items → SendsTo S.left S.held k octets.now self.old.upstreams.items self.new.upstreams.items) }
+        ensures rising { AreRising self.old.upstreams.items → AreRising self.new.upstreams.items }
+        ensures queued { OnOk result (HasQueued self.old → HasQueued self.new) }
+    {
+        let Some(place) = place_of(k, &self.upstreams) else {
+            return Ok(());
+        };
+        let upstream = &mut self.upstreams[place];
+        upstream.put(self.reporting.registry(), octets)?;
+        list(upstream, &mut self.ready, &mut self.writes)
+    }
+
+    /// Begins to connect to an address.
+    fn connect(&self, k: u32, address: SocketAddr) -> Result<Option<Side<S>>, WorldFault>
+        ensures { IfOk result (λ side. IfSome side (IsBegun (token_number (number_of_client self.now.reporting) k))) }
+    {
+        let Ok(socket) = S::connect(self.net, address) else {
+            return Ok(None);
+        };
+        let token = self.reporting.token_of(k);
+        let side = Side::new(self.alloc, self.reporting.registry(), socket, token, 0);
+        match side {
+            Ok(side) => Ok(Some(side)),
+            Err(error) if error.kind() == ErrorKind::OutOfMemory => Err(WorldFault {}),
+            Err(_) => Ok(None),
+        }
+    }
+
+    /// Does what an output says.
+    pub(crate) fn perform(&mut self, output: &Output) -> Result<(), WorldFault>
+        ensures rising { AreRising self.old.upstreams.items → AreRising self.new.upstreams.items }
+        ensures performs { OnOk result (Performs S.left S.held (number_of_client self.old.reporting) self.old.addresses.now output.now self.old.client self.old.upstreams.items self.new.client self.new.upstreams.items) }
+        ensures leaves { OnErr result (Leaves S.left S.held output.now self.old.client self.old.upstreams.items self.new.client self.new.upstreams.items) }
+        ensures queued { OnOk result (OpensAnew output.now self.old.upstreams.items → HasQueued self.old → HasQueued self.new) }
+    {
+        match output {
+            Output::Client(octets) => match self.client.put(self.reporting.registry(), octets) {
+                Ok(()) => Ok(()),
+                Err(PutFault::Socket(_) | PutFault::Memory) => Err(WorldFault {}),
+            },
+            Output::Open(k, route) => self.open(*k, *route),
+            Output::Up(k, octets) => self.put(*k, octets.as_slice()),
+            Output::Close(k) => {
+                if let Some(place) = place_of(*k, &self.upstreams) {
+                    self.upstreams.remove(place);
+                }
+                Ok(())
+            }
+            Output::CloseClient => {
+                self.client.finish()?;
+                Ok(())
+            }
+        }
+    }
+}
+
+/// The address of a route's upstream.
+fn address_of(route: u32, addresses: &[SocketAddr]) -> Option<SocketAddr>
+    ensures { result ≡ slice_get addresses.now route }
+{
+    match addresses.get(route as usize) {
+        Some(address) => Some(*address),
+        None => None,
+    }
+}
+
+/// The event that a read of the client's socket gives, if it gives one.
+fn client_event(got: Got) -> Option<Event>
+    ensures { result ≡ client_heard got }
+{
+    match got {
+        Got::Octets(piece) => Some(Event::Client(piece)),
+        Got::End => Some(Event::ClientEnd),
+        Got::Nothing => None,
+    }
+}
+
+/// Whether an event tells that a connection failed.
+fn is_failure(event: &Option<Event>) -> bool
+    ensures { result ≡ is_failed event.now }
+{
+    matches!(event, Some(Event::UpFailed(_)))
+}
+
+/// Notes what was reported of the client's socket.
+fn note_client<S: Wire>(reports: &Events, client: &mut Side<S>)
+    ensures { Goes S.left S.held no_news client.old client.new }
+{
+    for report in reports {
+        if number_in(report.token()) == CLIENT {
+            client.note(report);
+        }
+    }
+}

@@ -6,14 +6,14 @@ use std::net::{Ipv4Addr, SocketAddr, TcpListener, TcpStream};
 use std::test::*;
 
 /// A listener that doesn't wait.
-pub fn quiet_listener(host: &HostRuntime) -> io::Result<TcpListener> {
+pub(crate) fn quiet_listener(host: &HostRuntime) -> io::Result<TcpListener> {
     let listener = TcpListener::bind(host, SocketAddr::from((Ipv4Addr::LOCALHOST, 0)))?;
     listener.set_nonblocking(true)?;
     Ok(listener)
 }
 
 /// The two ends of a connection, neither of which waits: that of a peer, and the gateway's.
-pub fn pair(host: &HostRuntime) -> io::Result<(TcpStream, mio::net::TcpStream)> {
+pub(crate) fn pair(host: &HostRuntime) -> io::Result<(TcpStream, mio::net::TcpStream)> {
     let listener = TcpListener::bind(host, SocketAddr::from((Ipv4Addr::LOCALHOST, 0)))?;
     let near = TcpStream::connect(host, listener.local_addr()?)?;
     let (far, _address) = listener.accept()?;
@@ -23,7 +23,7 @@ pub fn pair(host: &HostRuntime) -> io::Result<(TcpStream, mio::net::TcpStream)> 
 }
 
 /// The numbers up to 4,000,000, in octets: more than a socket takes at once.
-pub fn numbers(alloc: Global) -> Result<Vec<u8>, AllocError> {
+pub(crate) fn numbers(alloc: Global) -> Result<Vec<u8>, AllocError> {
     let mut octets = Vec::new(alloc);
     for number in 0u32..4_000_000 {
         octets.extend_from_slice(&number.to_be_bytes())?;

@@ -1,5 +1,6 @@
 /* Has one read or write of a socket go wrong, of the program that it is loaded before: the one whose number stands in FAULT. By KIND it fails, moves
-   one octet at most, or is interrupted. It says which it was. For `.ci/faults`. */
+   one octet at most, or is interrupted. It says which it was. Or the first connection that comes isn't accepted, by the error whose number stands in
+   ACCEPT: it is taken from the queue and closed, or stays there, if STAYS is set. For `.ci/faults`. */
 #define _GNU_SOURCE
 #include <errno.h>
 #include <stdlib.h>
@@ -44,6 +45,19 @@ int epoll_ctl(int watcher, int change, int file, struct epoll_event *event) {
     watchers[file] = watcher;
   }
   return syscall(SYS_epoll_ctl, watcher, change, file, event);
+}
+
+int accept4(int file, struct sockaddr *address, socklen_t *length, int flags) {
+  static int is_over;
+  const char *error = getenv("ACCEPT");
+  if (!error || is_over) return syscall(SYS_accept4, file, address, length, flags);
+  if (!getenv("STAYS")) {
+    int taken = syscall(SYS_accept4, file, address, length, flags);
+    if (taken < 0) return taken;
+    close(taken);
+  }
+  is_over = 1;
+  return errno = atoi(error), -1;
 }
 
 ssize_t recv(int file, void *octets, size_t count, int flags) {

@@ -1,6 +1,7 @@
 -- What is told of octets, and what goes on offer of it.
 use Rattle.std.proofs.Common.{◌≡◌, ℕ, ◌<◌, ◌≤◌, true, false, if◌then◌else◌, List, [], ◌++◌, length, Option, Some, None, refl, sym, ◌∙◌, ap, subst, append-nil}
-use Rattle.model.specs.ResponseHeads.{Head, longest_section}
+use Rattle.model.specs.ResponseHeads.{Head}
+use Rattle.model.specs.Limits.{longest_section}
 use Rattle.model.specs.Deliveries.{Delivery, End}
 use Rattle.offering.specs.Outbox.{trailers_at, Outbox, first_head, first_end, grown}
 use Rattle.h1_reader.specs.HeadSizes.{field_octets}

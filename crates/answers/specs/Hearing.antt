@@ -1,6 +1,6 @@
 -- What octets of an upstream come to, and the end of its connection.
 use Rattle.std.specs.Prelude.{◌≡◌, ℕ, ◌<◌, ◌≤◌, ◌⊎◌, Bool, true, false, List, ◌++◌, length, Some}
-use Rattle.model.specs.ResponseHeads.{longest_section}
+use Rattle.model.specs.Limits.{longest_section}
 use Rattle.model.specs.Idle.{LeavesOpen}
 use Rattle.offering.specs.Outbox.{Outbox, grown}
 use Rattle.h1_reader.specs.HeadSizes.{field_octets}

@@ -5,7 +5,7 @@ ghost use Rattle.gateway.specs.Setups.{setup_of, IsServable};
 
 use crate::made::Made;
 use crate::samples::{FIRST_BLOCK, LATER_BLOCKS};
-use gateway::{Config, Event, Output, Passing, Policy, Route, run};
+use gateway::{Config, Event, Output, Passing, Route, run};
 use std::alloc::Global;
 
 /// The preface of a client, and its settings, without entries (RFC 9113, section 3.4).
@@ -23,8 +23,8 @@ pub struct Load {
     pub response: &'static [u8],
 }
 
-/// One route for all requests.
-fn config(alloc: Global) -> Option<Config>
+/// One route for all requests, and bodies passed on so.
+pub(crate) fn config(alloc: Global, passing: Passing) -> Option<Config>
     ensures { IfSome result (λ config. IsServable (setup_of config)) }
 {
     let route = Route {
@@ -33,12 +33,8 @@ fn config(alloc: Global) -> Option<Config>
         upstream: String::new(alloc),
     };
     Some(Config {
-        routes: vec![in alloc; route].ok()?,
-        policy: Policy::Plain,
-        passing: Passing::Whole,
-        max_body: 1_048_576,
-        max_response: 1_048_576,
-        keep: false,
+        passing,
+        ..Config::new(vec![in alloc; route].ok()?)
     })
 }
 
@@ -66,7 +62,7 @@ fn push_request(place: u32, octets: &mut Vec<u8>) -> Option<()> {
 }
 
 /// A connection's request at a place.
-fn request_at(alloc: Global, place: u32) -> Option<Event> {
+pub(crate) fn request_at(alloc: Global, place: u32) -> Option<Event> {
     let mut octets = Vec::new(alloc);
     push_request(place, &mut octets)?;
     Some(Event::Client(octets))
@@ -147,7 +143,12 @@ fn keep_all(steps: &[Vec<Output>], made: &mut Made) -> Option<()> {
 }
 
 /// A connection with these events.
-fn run_once(alloc: Global, config: &Config, events: &[Event], made: &mut Made) -> Option<()>
+pub(crate) fn run_once(
+    alloc: Global,
+    config: &Config,
+    events: &[Event],
+    made: &mut Made,
+) -> Option<()>
     requires { IsServable (setup_of config.now) }
 {
     made.clear();
@@ -170,5 +171,5 @@ fn get_by(alloc: Global, config: &Config, rounds: u32, made: &mut Made, load: Lo
 
 /// The same by one route for all requests.
 pub(crate) fn get(alloc: Global, rounds: u32, made: &mut Made, load: Load) -> Option<()> {
-    get_by(alloc, &config(alloc)?, rounds, made, load)
+    get_by(alloc, &config(alloc, Passing::Whole)?, rounds, made, load)
 }

@@ -3,7 +3,7 @@
 use crate::made::Made;
 use causes::Route;
 use frames::View;
-use judgement::{BlockJudged, Connection, FrameJudged, Judged, Terms};
+use judgement::{BlockJudged, Connection, Judged, Terms};
 use std::alloc::Global;
 
 /// Types of frames (RFC 9113, section 6).
@@ -87,9 +87,9 @@ impl Client {
         })
     }
 
-    /// A number for what comes of a frame.
+    /// A number for what comes of a frame without a fragment of a header block.
     fn judge(&mut self, kind: u8, flags: u8, id: u32, payload: &[u8]) -> Option<u8> {
-        if payload.len() > CONTENT.len() || self.routes.len() > 1 {
+        if payload.len() > CONTENT.len() {
             return None;
         }
         let view = View {
@@ -98,21 +98,33 @@ impl Client {
             id,
             payload,
         };
+        match kind {
+            DATA | SETTINGS | PING | WINDOW_UPDATE => {
+                Some(number_of(self.connection.judge(view, MOST)))
+            }
+            _ => None,
+        }
+    }
+
+    /// A number for what comes of a whole block on the next stream.
+    fn judge_block(&mut self, block: &[u8]) -> Option<u8> {
+        if block.len() > CONTENT.len() || self.routes.len() > 1 {
+            return None;
+        }
+        let id = self.next;
+        self.next = id.checked_add(2)?;
+        let view = View {
+            kind: HEADERS,
+            flags: WHOLE,
+            id,
+            payload: block,
+        };
         let terms = Terms {
             routes: &self.routes,
             max_body: MOST,
         };
-        match self.connection.judge_frame(view, false, terms).ok()? {
-            FrameJudged::Plain(judged) => Some(number_of(judged)),
-            FrameJudged::OfBlock(judged) => Some(number_of_block(judged)),
-        }
-    }
-
-    /// Judges a whole block on the next stream.
-    fn judge_block(&mut self, block: &[u8]) -> Option<u8> {
-        let id = self.next;
-        self.next = id.checked_add(2)?;
-        self.judge(HEADERS, WHOLE, id, block)
+        let judged = self.connection.judge_fragment(view, false, terms).ok()?;
+        Some(number_of_block(judged))
     }
 
     /// Begins a request on the next stream.

@@ -8,19 +8,21 @@ mod exchanges;
 mod gets;
 mod judging;
 mod made;
+mod passed;
 mod samples;
 mod texts;
 
 use crate::gets::Load;
 use crate::judging::{Judging, Streams};
 use crate::made::Made;
+use crate::passed::Passed;
 use crate::samples::{BARE_RESPONSE, CHUNKED_RESPONSE, SMALL_RESPONSE, TRAILING_RESPONSE};
 use std::alloc::Global;
 use std::env;
 use std::process::ExitCode;
 
 /// The names of the parts.
-const PARTS: [&str; 31] = [
+const PARTS: [&str; 35] = [
     "exchanges",
     "decode",
     "send",
@@ -52,6 +54,10 @@ const PARTS: [&str; 31] = [
     "gets-bare",
     "gets-chunked",
     "gets-trailers",
+    "pieces-none",
+    "pieces",
+    "parts-none",
+    "parts",
 ];
 
 /// The status is 1 for any command line but a part and a number of rounds, where a layer refuses the samples or memory is
@@ -95,13 +101,22 @@ fn run_part(part: &str, alloc: Global, rounds: u32, made: &mut Made) -> Option<(
         "huffman-decode" => texts::decode(alloc, rounds, made),
         "huffman-encode" => texts::encode(alloc, rounds, made),
         "find" => encoders::find(alloc, rounds, made),
-        _ => match load_of(part) {
-            Some(load) => gets::get(alloc, rounds, made, load),
-            None => {
-                let (streams, judging) = judged_by(part)?;
-                judging::judge(alloc, rounds, made, streams, judging)
-            }
-        },
+        "pieces-none" => passed::pass(alloc, rounds, made, Passed::NoPieces),
+        "pieces" => passed::pass(alloc, rounds, made, Passed::Pieces),
+        "parts-none" => passed::pass(alloc, rounds, made, Passed::NoParts),
+        "parts" => passed::pass(alloc, rounds, made, Passed::Parts),
+        _ => run_many(part, alloc, rounds, made),
+    }
+}
+
+/// Runs the rounds of a part that is one of several of its kind.
+fn run_many(part: &str, alloc: Global, rounds: u32, made: &mut Made) -> Option<()> {
+    match load_of(part) {
+        Some(load) => gets::get(alloc, rounds, made, load),
+        None => {
+            let (streams, judging) = judged_by(part)?;
+            judging::judge(alloc, rounds, made, streams, judging)
+        }
     }
 }
 

@@ -7,7 +7,8 @@ use Rattle.model.specs.Tables.{total_size}
 use Rattle.model.specs.Tapes.Note.{Fields}
 use Rattle.model.specs.Setup.{Setup}
 use Rattle.model.specs.Malformed.{Carried, is_malformed_block}
-use Rattle.model.specs.Causes.{largest_fields, are_large, cause_if, first_cause, cause_of_head, is_routed}
+use Rattle.model.specs.Causes.{are_large, cause_if, first_cause, cause_of_head, is_routed}
+use Rattle.model.specs.Limits.{largest_fields}
 use Rattle.model.specs.Causes.Cause.{LargeFields, NoRoute}
 use Rattle.model.specs.ErrorTable.{is_bad_block}
 use Rattle.model.specs.Courses.{cause_of_block}

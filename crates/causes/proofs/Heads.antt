@@ -8,7 +8,8 @@ use Rattle.model.specs.Http2.{is_connect, declared_length, authority_of, path_of
 use Rattle.model.specs.Tables.{total_size}
 use Rattle.model.specs.Setup.{Setup, Route, IsFirstMatch}
 use Rattle.model.specs.Malformed.{carried_by, is_malformed_block}
-use Rattle.model.specs.Causes.{Cause, largest_fields, are_large, has_field, declares_past, cause_if, first_cause, cause_of_head, is_match, is_routed}
+use Rattle.model.specs.Causes.{Cause, are_large, has_field, declares_past, cause_if, first_cause, cause_of_head, is_match, is_routed}
+use Rattle.model.specs.Limits.{largest_fields}
 use Rattle.model.specs.Causes.Cause.{LargeFields, Tunnel, Expects, LargeBody, NoRoute}
 use Rattle.model.proofs.RouteLaws.{match_has}
 use Rattle.causes.specs.Openings.{is_bad_head, causes_without_routes}

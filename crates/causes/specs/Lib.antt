@@ -4,3 +4,4 @@ pub use Rattle.model.specs.Malformed
 pub use Rattle.model.specs.ErrorTable
 pub mod Views
 pub mod Openings
+pub use Rattle.model.specs.Limits

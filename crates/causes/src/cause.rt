@@ -4,11 +4,7 @@ ghost use Rattle.std.specs.Prelude.{◌≡◌};
 ghost use Rattle.model.specs.Causes.{status_of, reset_code};
 ghost use Rattle.causes.specs.Views.{cause_of};
 
-/// There was a fault of the gateway's own side (RFC 9113, section 7).
-const INTERNAL_ERROR: u32 = 2;
-
-/// The client asks for too much (RFC 9113, section 7).
-const ENHANCE_YOUR_CALM: u32 = 11;
+use protocol::error_codes::{ENHANCE_YOUR_CALM, INTERNAL_ERROR};
 
 /// Why the gateway answers a request itself, in place of an upstream (this project's profile; statuses from RFC 9110, section 15).
 #[derive(Clone, Copy, Debug, PartialEq, Eq)]

@@ -3,7 +3,8 @@
 ghost use Rattle.std.specs.Prelude.{◌≡◌, ◌≤◌, length, codes, IfOk, option_map};
 ghost use Rattle.model.specs.Setup.{Setup};
 ghost use Rattle.model.specs.Tables.{total_size};
-ghost use Rattle.model.specs.Causes.{largest_fields, has_field, declares_past, first_cause};
+ghost use Rattle.model.specs.Causes.{has_field, declares_past, first_cause};
+ghost use Rattle.model.specs.Limits.{largest_fields};
 ghost use Rattle.request_rules.specs.Heads.{parts_of};
 ghost use Rattle.causes.specs.Views.{cause_of};
 ghost use Rattle.causes.specs.Openings.{ComesTo, causes_without_routes};

@@ -5,7 +5,7 @@ ghost use Rattle.model.specs.Tables.{total_size};
 ghost use Rattle.model.specs.Tapes.Note.{Fields};
 ghost use Rattle.model.specs.Malformed.{has_length};
 ghost use Rattle.model.specs.ErrorTable.{is_bad_block};
-ghost use Rattle.model.specs.Causes.{largest_fields};
+ghost use Rattle.model.specs.Limits.{largest_fields};
 ghost use Rattle.causes.specs.Openings.{behind_head};
 
 use hpack_table::Field;

@@ -1,6 +1,6 @@
 //! One client of many: it is served, and then left.
 
-ghost use Rattle.std.specs.Prelude.{◌+◌, ◌<◌, ◌≡◌, ◌^◌};
+ghost use Rattle.std.specs.Prelude.{◌+◌, ◌<◌, ◌≡◌, ◌^◌, is_none, not};
 ghost use Rattle.gateway.specs.Setups.{setup_of, IsServable};
 
 use crate::log::say_exchanges;
@@ -94,7 +94,9 @@ pub struct Common<'a> {
 }
 
 /// Where exchanges are noted, if they are.
-fn exchanges_for(alloc: Global, setting: &Setting) -> Option<Exchanges> {
+fn exchanges_for(alloc: Global, setting: &Setting) -> Option<Exchanges>
+    ensures { is_none result ≡ not setting.now.is_logged }
+{
     if !setting.is_logged {
         return None;
     }
@@ -141,7 +143,9 @@ impl<'a> Client<'a> {
     }
 
     /// Whether it is being left.
-    pub fn is_left(&self) -> bool {
+    pub fn is_left(&self) -> bool
+        ensures { result ≡ is_none self.now.serving }
+    {
         self.serving.is_none()
     }
 
@@ -197,7 +201,10 @@ impl<'a> Client<'a> {
         let Some(departure) = &mut self.departure else {
             return Remaining::Gone;
         };
-        match departure.go_on(common.rt.alloc(), common.rt, common.registry, buffer) {
+        let Ok(now) = Instant::now(common.rt) else {
+            return Remaining::Gone;
+        };
+        match departure.go_on(common.rt.alloc(), now, common.registry, buffer) {
             Ok(Some(most)) if most.is_zero() => Remaining::More,
             Ok(Some(_)) => Remaining::Nothing,
             // Where leaving it fails the client has gone.

@@ -1,6 +1,6 @@
 //! Where clients come in.
 
-ghost use Rattle.std.specs.Prelude.{◌≤◌, IfErr};
+ghost use Rattle.std.specs.Prelude.{◌≡◌, ◌≤◌, ◌&&◌, IfErr, not, nat_le, nat_lt, true, false};
 ghost use Rattle.gateway.specs.Setups.{setup_of, IsServable};
 ghost use Rattle.h2gw_parts.specs.Stops.{status_of};
 
@@ -101,22 +101,30 @@ impl Entrance {
     }
 
     /// Whether all came that may.
-    pub fn is_over(&self) -> bool {
+    pub fn is_over(&self) -> bool
+        ensures { result ≡ nat_le self.now.most self.now.came }
+    {
         self.came >= self.most
     }
 
     /// Whether no client is let in until time passes.
-    pub fn is_paused(&self) -> bool {
+    pub fn is_paused(&self) -> bool
+        ensures { result ≡ self.now.is_paused }
+    {
         self.is_paused
     }
 
     /// Clients are let in again.
-    pub fn resume(&mut self) {
+    pub fn resume(&mut self)
+        ensures { self.new ≡ record self.old { is_paused = false } }
+    {
         self.is_paused = false;
     }
 
     /// Notes that somebody was reported.
-    pub fn hear(&mut self) {
+    pub fn hear(&mut self)
+        ensures { self.new ≡ record self.old { may_wait = true } }
+    {
         self.may_wait = true;
     }
 
@@ -138,12 +146,16 @@ impl Entrance {
     }
 
     /// Whether there is a place for one more, and one more may come.
-    fn has_place(&self, clients: usize) -> bool {
+    fn has_place(&self, clients: usize) -> bool
+        ensures { result ≡ ((nat_lt clients self.now.places && not (nat_le self.now.most self.now.came)) && not self.now.is_paused) }
+    {
         clients < self.places && !self.is_over() && !self.is_paused
     }
 
     /// Whether one more may wait, and there is a place for it.
-    pub fn may_let_in(&self, clients: usize) -> bool {
+    pub fn may_let_in(&self, clients: usize) -> bool
+        ensures { result ≡ (self.now.may_wait && ((nat_lt clients self.now.places && not (nat_le self.now.most self.now.came)) && not self.now.is_paused)) }
+    {
         self.may_wait && self.has_place(clients)
     }
 

@@ -1,6 +1,6 @@
 //! The connections of clients.
 
-ghost use Rattle.std.specs.Prelude.{◌≤◌, IfErr};
+ghost use Rattle.std.specs.Prelude.{◌≡◌, ◌≤◌, ◌&&◌, ◌==◌, IfErr, not};
 ghost use Rattle.gateway.specs.Setups.{setup_of, IsServable};
 ghost use Rattle.h2gw_parts.specs.Stops.{status_of};
 
@@ -34,7 +34,9 @@ pub fn serve_clients(rt: &HostRuntime, setting: &Setting) -> Result<(), Stop>
 
 /// Whether one client is served after another, however long it says nothing, and none is told of. This is the default, and has a way of its own (`serve_at`), which
 /// is the program's as it was first described: one client waits for another, an error of accept ends the program, and there is no reactor.
-fn is_plain(setting: &Setting) -> bool {
+fn is_plain(setting: &Setting) -> bool
+    ensures { result ≡ ((setting.now.clients == 1 && setting.now.idle == 0) && not setting.now.is_logged) }
+{
     setting.clients == 1 && setting.idle == 0 && !setting.is_logged
 }
 

@@ -4,7 +4,7 @@ ghost use Rattle.std.specs.Prelude.{◌≡◌, [], IfOk};
 ghost use Rattle.gateway.specs.Setups.{setup_of, IsServable};
 
 use clients::{serve_at, serve_crowd};
-use gateway::{Config, Passing, Policy, Route};
+use gateway::{Config, Route};
 use h2gw_parts::setting::Setting;
 use std::alloc::{AllocError, Global};
 use std::io;
@@ -36,12 +36,9 @@ fn setting_of(alloc: Global, connections: u32, turns: u32) -> Setting
     Setting {
         listen: SocketAddr::from((Ipv4Addr::LOCALHOST, 0)),
         config: Config {
-            routes: Vec::new(alloc),
-            policy: Policy::Plain,
-            passing: Passing::Whole,
             max_body: 1,
             max_response: 1,
-            keep: false,
+            ..Config::new(Vec::new(alloc))
         },
         addresses: Vec::new(alloc),
         connections,

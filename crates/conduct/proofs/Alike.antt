@@ -12,7 +12,8 @@ use Rattle.model.specs.Errors.{Fault, first_of, or_else}
 use Rattle.model.specs.Errors.Fault.{Connection, Stream}
 use Rattle.model.specs.FrameErrors.{fault_if}
 use Rattle.model.specs.WindowsOnTape.{has_settings, is_past}
-use Rattle.model.specs.ErrorTable.{most_resets, grants_nothing, grants_past, is_past_room, fault_of, is_idle, is_headers, judged, unless_of_stream}
+use Rattle.model.specs.ErrorTable.{grants_nothing, grants_past, is_past_room, fault_of, is_idle, is_headers, judged, unless_of_stream}
+use Rattle.model.specs.Limits.{most_resets}
 use Rattle.conduct.specs.Summary.{Brief, Stream as Kept, Summary}
 use Rattle.conduct.specs.Judging.{window_in, is_over_in, is_active_in, active_in, shifts_past_in, standing_in, completed_in, shift_in, fault_on_in, fault_by_standing_in, idle_in, resets_row_in, stream_update_in, stream_data_in, malformed_in, rows_before_block_in, rows_behind_block_in, rows_in, fault_for}
 use Rattle.conduct.specs.After.{are_taken_in}

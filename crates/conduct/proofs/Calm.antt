@@ -10,7 +10,8 @@ use Rattle.model.specs.Tapes.Entry.{Came}
 use Rattle.model.specs.Decoding.{Partial}
 use Rattle.model.specs.Payloads.{PayloadFault, payload_fault, code_of_payload}
 use Rattle.model.specs.SettingValues.{SettingsFault, settings_fault, code_of_fault}
-use Rattle.model.specs.StreamStates.{StreamState, Standing, most_active, state_of, is_above, most_streams, unopened, opened_or, verdict}
+use Rattle.model.specs.StreamStates.{StreamState, Standing, state_of, is_above, unopened, opened_or, verdict}
+use Rattle.model.specs.Limits.{most_active, most_streams}
 use Rattle.model.specs.StreamStates.Standing.{WholeConnection, Opened, Idle, ServerIdle, Skipped, Beyond}
 use Rattle.model.specs.StreamStates.Verdict.{Opens, Fails}
 use Rattle.model.specs.Errors.{Fault, row_first_frame, first_of, or_else}

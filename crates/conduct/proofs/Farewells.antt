@@ -6,7 +6,8 @@ use Rattle.model.specs.Frames.{Frame, data_kind, headers_kind, continuation_kind
 use Rattle.model.specs.Logs.Event.{Client, ClientEnd, ClientTook, Up, UpEnd, UpFailed, UpTook}
 use Rattle.model.specs.Tapes.{Noted, Entry, sent}
 use Rattle.model.specs.Tapes.Entry.{Came, Breached, Happened, Sent, Did}
-use Rattle.model.specs.Admission.{untaken, most_untaken, is_crowded}
+use Rattle.model.specs.Admission.{untaken, is_crowded}
+use Rattle.model.specs.Limits.{most_untaken}
 use Rattle.model.specs.ErrorClause.{is_passing, is_calming}
 
 -- a farewell is neither, and gives no octets back

@@ -2,17 +2,17 @@
 use Rattle.std.proofs.Common.{◌≡◌, ℕ, ◌<◌, ◌≤◌, Bool, true, false, not, ◌&&◌, ◌||◌, ◌==◌, nat_lt, if◌then◌else◌, List, [], ◌∷◌, ◌++◌, filter, length, Option, Some, None, refl, sym, ◌∙◌, ap, subst, arith, inl, inr}
 use Rattle.std.proofs.lemmas.Bool.{or_left, or_right, or_parts, and_from, eq-eqb, ltb-true}
 use Rattle.std.specs.List.{list_any}
-use Rattle.model.specs.Frames.{Frame, headers_kind, refused_stream}
+use Rattle.model.specs.Frames.{Frame, headers_kind, refused_stream, protocol_error, flow_control_error}
 use Rattle.model.specs.Setup.{Setup}
 use Rattle.model.specs.Known.{Known}
 use Rattle.model.specs.Tapes.{Noted, Entry}
 use Rattle.model.specs.Tapes.Entry.{Came, Breached, Happened, Sent, Did}
 use Rattle.model.specs.Decoding.{Partial}
-use Rattle.model.specs.StreamStates.{most_active, verdict, Standing}
+use Rattle.model.specs.StreamStates.{verdict, Standing}
+use Rattle.model.specs.Limits.{most_active}
 use Rattle.model.specs.StreamStates.Standing.{Idle}
 use Rattle.model.specs.StreamStates.Verdict.{Opens, Fails}
 use Rattle.model.specs.FrameErrors.{fault_if}
-use Rattle.model.specs.Frames.{protocol_error, flow_control_error}
 use Rattle.model.specs.Errors.{Fault, first_of, or_else}
 use Rattle.model.specs.Errors.Fault.{Stream}
 use Rattle.model.specs.Lifetimes.{opens_by, may_open, ends_by, active}

@@ -7,7 +7,7 @@ use Rattle.std.specs.List.{list_any, list_all}
 use Rattle.model.specs.Messages.{Item}
 use Rattle.model.specs.Messages.Item.{Content}
 use Rattle.model.specs.Frames.{data_kind, rst_stream_kind, window_update_kind, ends_stream, content}
-use Rattle.model.specs.Windows.{first_window}
+use Rattle.model.specs.Limits.{first_window, most_streams}
 use Rattle.model.specs.Setup.{Setup}
 use Rattle.model.specs.Logs.{Event, Act}
 use Rattle.model.specs.Tapes.{Noted, Entry}
@@ -15,7 +15,6 @@ use Rattle.model.specs.Tapes.Breach.{WrongPreface, TooLong}
 use Rattle.model.specs.Tapes.Entry.{Came, Breached, Happened, Sent, Did}
 use Rattle.model.specs.Decoding.{Partial}
 use Rattle.model.specs.Streams.{is_ended_by, frame_items}
-use Rattle.model.specs.StreamStates.{most_streams}
 use Rattle.model.specs.Errors.{Fault}
 use Rattle.model.specs.Errors.Fault.{Connection, Stream, Discarded}
 use Rattle.model.specs.Lifetimes.{may_open, opens_by, ends_by}

@@ -16,7 +16,8 @@ use Rattle.model.specs.Streams.{frame_items}
 use Rattle.model.specs.Available.{items_on}
 use Rattle.model.specs.SettingValues.{Setting, settings_in, settings_fault, initial_window_after}
 use Rattle.model.proofs.LayersSettings.{applied_in_order}
-use Rattle.model.specs.Windows.{balance, sending_window, first_window}
+use Rattle.model.specs.Windows.{balance, sending_window}
+use Rattle.model.specs.Limits.{first_window}
 use Rattle.model.specs.Known.{Known, fails_behind}
 use Rattle.model.specs.Openings.{exchanges, last_stream}
 use Rattle.model.specs.FrameErrors.{frame_fault, sound, last_continuations}

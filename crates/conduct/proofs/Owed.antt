@@ -3,7 +3,7 @@ use Rattle.std.proofs.Common.{◌≡◌, ℕ, ◌&&◌, ◌==◌, nat_lt, if◌t
 use Rattle.model.specs.Frames.{Frame, goaway, no_error}
 use Rattle.model.specs.Tapes.{Entry}
 use Rattle.model.specs.Tapes.Entry.{Came, Breached, Happened, Sent, Did}
-use Rattle.model.specs.StreamStates.{most_streams}
+use Rattle.model.specs.Limits.{most_streams}
 use Rattle.model.specs.Errors.{Fault}
 use Rattle.model.specs.Errors.Fault.{Connection, Stream, Discarded}
 use Rattle.model.specs.Known.{Known, fails_behind}

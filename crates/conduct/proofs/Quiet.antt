@@ -10,15 +10,15 @@ use Rattle.model.specs.Setup.{Setup}
 use Rattle.model.specs.Tapes.Note.{NoBlock}
 use Rattle.model.specs.Decoding.{Partial, joined}
 use Rattle.model.specs.Streams.{frame_items}
-use Rattle.model.specs.StreamStates.{most_streams}
+use Rattle.model.specs.Limits.{most_streams, most_continuations, most_resets}
 use Rattle.model.specs.Payloads.{PayloadFault, code_of_payload}
 use Rattle.model.specs.SettingValues.{settings_in, settings_fault, code_of_fault, initial_window_after}
 use Rattle.model.specs.Errors.{Fault, row_first_frame, first_of, or_else}
 use Rattle.model.specs.Errors.Fault.{Connection, Stream}
-use Rattle.model.specs.FrameErrors.{fault_if, is_between, is_long, most_continuations}
+use Rattle.model.specs.FrameErrors.{fault_if, is_between, is_long}
 use Rattle.model.specs.Lifetimes.{ends_by, opens_by}
 use Rattle.model.specs.WindowsOnTape.{increment, is_past}
-use Rattle.model.specs.ErrorTable.{most_resets, judged, is_idle, is_headers, unless_of_stream}
+use Rattle.model.specs.ErrorTable.{judged, is_idle, is_headers, unless_of_stream}
 use Rattle.model.specs.Causes.{Cause}
 use Rattle.model.specs.Courses.{first_of_both}
 use Rattle.model.specs.ErrorClause.{acks, is_fatal, reset_for}

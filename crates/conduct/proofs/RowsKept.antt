@@ -7,7 +7,7 @@ use Rattle.model.specs.Setup.{Setup}
 use Rattle.model.specs.Tapes.{Note, Noted, Entry}
 use Rattle.model.specs.Tapes.Entry.{Came, Breached, Happened, Sent, Did}
 use Rattle.model.specs.Decoding.{Partial, joined}
-use Rattle.model.specs.StreamStates.{most_streams}
+use Rattle.model.specs.Limits.{most_streams}
 use Rattle.model.specs.Errors.{Fault}
 use Rattle.model.specs.Lifetimes.{may_open, opens_by}
 use Rattle.model.proofs.OpenedLaws.{joined_own, not_opened, may_open_by}

@@ -9,7 +9,7 @@ use Rattle.model.specs.Tapes.{Noted, Entry}
 use Rattle.model.specs.Tapes.Breach.{WrongPreface, TooLong}
 use Rattle.model.specs.Tapes.Entry.{Came, Breached, Happened, Sent, Did}
 use Rattle.model.specs.Decoding.{Partial}
-use Rattle.model.specs.StreamStates.{most_streams}
+use Rattle.model.specs.Limits.{most_streams, high_water}
 use Rattle.model.specs.Errors.{Fault, first_of, or_else}
 use Rattle.model.specs.ErrorTable.{is_malformed}
 use Rattle.model.specs.Malformed.{is_malformed_content}
@@ -22,7 +22,6 @@ use Rattle.model.specs.WindowsOnTape.{increment}
 use Rattle.model.specs.Courses.{cause_of_frame, first_of_both}
 use Rattle.model.specs.Octets.{is_empty}
 use Rattle.model.specs.Payloads.{number_field}
-use Rattle.model.specs.Admission.{high_water}
 use Rattle.model.specs.ErrorClause.{rst_stream, acks, reset_for, is_plainly_flagged, is_filled}
 use Rattle.conduct.specs.Summary.{Brief, carried_in, Stream as Kept, Summary}
 use Rattle.conduct.specs.Judging.{is_over_in, is_active_in, completed_in, malformed_in, rows_in, is_crowded_in, fault_for}

@@ -8,7 +8,8 @@ use Rattle.model.specs.Tapes.Entry.{Came, Breached, Happened, Sent, Did}
 use Rattle.model.specs.Decoding.{Partial, joined}
 use Rattle.model.specs.Errors.{Fault, first_of}
 use Rattle.model.specs.Errors.Fault.{Connection}
-use Rattle.model.specs.FrameErrors.{fault_if, is_long, most_continuations, longest_block}
+use Rattle.model.specs.FrameErrors.{fault_if, is_long}
+use Rattle.model.specs.Limits.{most_continuations, longest_block}
 use Rattle.model.specs.ErrorTable.{unless_of_stream}
 use Rattle.conduct.specs.Summary.{Summary}
 use Rattle.conduct.specs.Judging.{fault_by_standing_in, stream_update_in, stream_data_in, no_farewell_in, malformed_in, continuations_in, long_block_in}

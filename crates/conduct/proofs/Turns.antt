@@ -7,9 +7,8 @@ use Rattle.model.specs.Logs.Act.{Open, ToUp, Close, CloseClient}
 use Rattle.model.specs.Tapes.{Noted, Entry}
 use Rattle.model.specs.Tapes.Entry.{Came, Breached, Happened, Sent, Did}
 use Rattle.model.specs.Decoding.{Partial, joined}
-use Rattle.model.specs.StreamStates.{most_streams}
+use Rattle.model.specs.Limits.{most_streams, high_water}
 use Rattle.model.specs.Lifetimes.{ends_by}
-use Rattle.model.specs.Admission.{high_water}
 use Rattle.model.specs.ErrorClause.{is_fatal, is_calming, is_passing, is_plainly_flagged, is_filled, rst_stream}
 use Rattle.model.specs.Octets.{is_empty}
 use Rattle.conduct.specs.Turn.{rest_of}

@@ -8,15 +8,15 @@ use Rattle.model.specs.Tapes.Entry.{Came, Breached}
 use Rattle.model.specs.Decoding.{Partial, joined}
 use Rattle.model.specs.Payloads.{payload_fault, code_of_payload}
 use Rattle.model.specs.SettingValues.{settings_in, settings_fault, code_of_fault, initial_window_after}
-use Rattle.model.specs.StreamStates.{StreamState, OpenedStream, Standing, standing, verdict, most_streams}
+use Rattle.model.specs.StreamStates.{StreamState, OpenedStream, Standing, standing, verdict}
+use Rattle.model.specs.Limits.{most_streams, most_untaken, most_continuations, most_resets}
 use Rattle.model.specs.StreamStates.StreamState.{ResetByPeer, ResetByUs}
-use Rattle.model.specs.Admission.{most_untaken}
 use Rattle.model.specs.Lifetimes.{state_by_ends, opens_by}
 use Rattle.model.specs.Errors.{Fault, row_first_frame, first_of, or_else}
 use Rattle.model.specs.Errors.Fault.{Connection, Stream}
-use Rattle.model.specs.FrameErrors.{fault_if, is_between, most_continuations, is_long, is_misplaced}
+use Rattle.model.specs.FrameErrors.{fault_if, is_between, is_long, is_misplaced}
 use Rattle.model.specs.WindowsOnTape.{has_settings, is_past}
-use Rattle.model.specs.ErrorTable.{most_resets, grants_nothing, grants_past, is_past_room, is_undecodable, is_malformed, judged, fault_of, is_idle, is_headers, unless_of_stream}
+use Rattle.model.specs.ErrorTable.{grants_nothing, grants_past, is_past_room, is_undecodable, is_malformed, judged, fault_of, is_idle, is_headers, unless_of_stream}
 use Rattle.conduct.specs.Summary.{Brief, carried_in, Stream as Kept, Summary}
 
 -- ---- streams

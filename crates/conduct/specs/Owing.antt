@@ -10,9 +10,8 @@ use Rattle.model.specs.Payloads.{number_field}
 use Rattle.model.specs.Setup.{Setup}
 use Rattle.model.specs.Tapes.{Entry}
 use Rattle.model.specs.Tapes.Entry.{Came, Happened, Sent}
-use Rattle.model.specs.Admission.{high_water}
+use Rattle.model.specs.Limits.{high_water, most_streams}
 use Rattle.model.specs.Streams.{frame_items}
-use Rattle.model.specs.StreamStates.{most_streams}
 use Rattle.model.specs.Errors.{Fault}
 use Rattle.model.specs.Errors.Fault.{Connection, Stream}
 use Rattle.model.specs.Lifetimes.{ends_by}

@@ -2,8 +2,7 @@
 -- gateway reset it; of all other ids nothing.
 use Rattle.std.specs.Prelude.{◌≡◌, ℕ, Bool, true, false, ◌≤◌, ◌==◌, if◌then◌else◌, List, [], ◌∷◌, map, length, None, pos}
 use Rattle.std.specs.List.{list_any}
-use Rattle.model.specs.Windows.{first_window}
-use Rattle.model.specs.StreamStates.{most_streams}
+use Rattle.model.specs.Limits.{first_window, most_streams}
 use Rattle.model.specs.Setup.{Setup}
 use Rattle.model.specs.Tapes.{Entry}
 use Rattle.model.specs.Tapes.Entry.{Came}

@@ -1,5 +1,5 @@
 -- What a table of TOML configures, or why it configures nothing.
-use Rattle.std.specs.Prelude.{◌≡◌, ◌⊎◌, ℕ, Bool, true, false, ◌&&◌, List, [], ◌∷◌, ◌++◌, Option, Some, None, string_bytes, codes, bytes_eq, ⊤}
+use Rattle.std.specs.Prelude.{◌≡◌, ◌⊎◌, ℕ, Bool, true, false, ◌&&◌, List, [], ◌∷◌, ◌++◌, Option, Some, None, string_bytes, codes, bytes_eq, map, ⊤}
 use Rattle.std.specs.List.{list_any, list_all, AllByRecursion}
 use Rattle.toml.specs.Data.{Members, no_members, member}
 use Rattle.gateway.specs.declared.config.Config.{Config}
@@ -8,6 +8,7 @@ use Rattle.configuration.specs.declared.faults.Key.{Key}
 use Rattle.configuration.specs.declared.faults.Key.TheVariants as key
 use Rattle.configuration.specs.declared.faults.ConfigFault.{ConfigFault}
 use Rattle.configuration.specs.declared.faults.ConfigFault.TheVariants.{NotToml, Bad, UnknownKey, Memory}
+use Rattle.configuration.specs.Lines.{name_of}
 use Rattle.configuration.specs.Keys.{text_at, number_at, bool_at, array_at, IsPolicy, IsPassing, IsMost, IsKeep, AreTables, IsAuthority, IsPrefix, IsUpstream, IsRight}
 
 -- The keys in the order in which they are judged: those of the whole table, and those of each route.
@@ -19,10 +20,10 @@ route_keys = key.Authority ∷ key.Prefix ∷ key.Upstream ∷ []
 
 -- The names of the keys that the whole table and a route can have.
 abbrev pub table_names : List (List ℕ)
-table_names = codes "policy" ∷ codes "passing" ∷ codes "max_body" ∷ codes "max_response" ∷ codes "keep" ∷ codes "route" ∷ []
+table_names = map name_of table_keys
 
 abbrev pub route_names : List (List ℕ)
-route_names = codes "authority" ∷ codes "prefix" ∷ codes "upstream" ∷ []
+route_names = map name_of route_keys
 
 -- whether the name is one of these
 abbrev pub is_among : List (List ℕ) → List ℕ → Bool

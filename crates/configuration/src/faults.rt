@@ -4,6 +4,8 @@ ghost use Rattle.std.specs.Prelude.{◌≡◌};
 ghost use Rattle.configuration.specs.Lines.{line_of};
 
 use std::alloc::AllocError;
+use std::error::Error;
+use std::fmt;
 
 /// A key of a configuration.
 #[derive(Clone, Copy, Debug, PartialEq, Eq, Drop)]
@@ -63,6 +65,14 @@ impl ConfigFault {
         }
     }
 }
+
+impl fmt::Display for ConfigFault {
+    fn fmt<W: fmt::Write>(&self, f: &mut fmt::Formatter<W>) -> fmt::Result {
+        f.write_str(self.line())
+    }
+}
+
+impl Error for ConfigFault {}
 
 impl From<AllocError> for ConfigFault {
     ghost use Rattle.std.specs.Prelude.{◌≡◌};

@@ -4,9 +4,6 @@ use frames::{Split, View};
 use std::alloc::{AllocError, Global};
 use std::test::*;
 
-/// SETTINGS with ACK: `000000 04 01 00000000`.
-const ACK: [u8; 9] = [0, 0, 0, 4, 1, 0, 0, 0, 0];
-
 /// Octets, and what they begin with.
 type Row<'a> = (&'a [u8], Split<'a>);
 
@@ -20,46 +17,39 @@ fn first_that_differs(rows: &[Row<'_>]) -> Option<usize> {
     None
 }
 
-#[test]
-fn splits_a_frame(rt: HostRuntime) {
-    let view = View {
-        kind: 0,
-        flags: 1,
-        id: 259,
-        payload: b"hi",
-    };
-    let octets = [0u8, 0, 2, 0, 1, 128, 0, 1, 3, 104, 105, 0, 0];
-    let rows = [(octets.as_slice(), Split::Frame(view, 11))];
-    assert_eq!(rt; first_that_differs(&rows), None);
-}
+/// A frame with octets behind it, fronts of frames, and lengths over the limit.
+static ROWS: [Row<'static>; 15] = [
+    (
+        &[0, 0, 2, 0, 1, 128, 0, 1, 3, 104, 105, 0, 0],
+        Split::Frame(
+            View {
+                kind: 0,
+                flags: 1,
+                id: 259,
+                payload: b"hi",
+            },
+            11,
+        ),
+    ),
+    (&[], Split::More),
+    (&[0], Split::More),
+    (&[0, 0], Split::More),
+    (&[0, 0, 0], Split::More),
+    (&[0, 0, 0, 4], Split::More),
+    (&[0, 0, 0, 4, 1], Split::More),
+    (&[0, 0, 0, 4, 1, 0], Split::More),
+    (&[0, 0, 0, 4, 1, 0, 0], Split::More),
+    (&[0, 0, 0, 4, 1, 0, 0, 0], Split::More),
+    (&[0, 0, 1, 0, 1, 0, 0, 0, 1], Split::More),
+    (&[0, 64, 0, 0, 0, 0, 0, 0, 1], Split::More),
+    (&[0, 64, 1, 0, 0, 0, 0, 0, 1], Split::TooLong),
+    (&[1, 0, 0, 0, 0, 0, 0, 0, 1, 7], Split::TooLong),
+    (&[0, 64, 1, 0, 0, 0, 0, 0], Split::More),
+];
 
 #[test]
-fn waits_for_more(rt: HostRuntime) {
-    let rows: [Row<'_>; 11] = [
-        (&ACK[..0], Split::More),
-        (&ACK[..1], Split::More),
-        (&ACK[..2], Split::More),
-        (&ACK[..3], Split::More),
-        (&ACK[..4], Split::More),
-        (&ACK[..5], Split::More),
-        (&ACK[..6], Split::More),
-        (&ACK[..7], Split::More),
-        (&ACK[..8], Split::More),
-        (&[0, 0, 1, 0, 1, 0, 0, 0, 1], Split::More),
-        (&[0, 64, 0, 0, 0, 0, 0, 0, 1], Split::More),
-    ];
-    assert_eq!(rt; first_that_differs(&rows), None);
-}
-
-#[test]
-fn refuses_a_length_over_the_limit(rt: HostRuntime) {
-    let header = [0u8, 64, 1, 0, 0, 0, 0, 0, 1];
-    let rows: [Row<'_>; 3] = [
-        (&header, Split::TooLong),
-        (&[1, 0, 0, 0, 0, 0, 0, 0, 1, 7], Split::TooLong),
-        (&header[..8], Split::More),
-    ];
-    assert_eq!(rt; first_that_differs(&rows), None);
+fn octets_are_split_into_frames(rt: HostRuntime) {
+    assert_eq!(rt; first_that_differs(&ROWS), None);
 }
 
 /// The octets of these frames, one behind another.

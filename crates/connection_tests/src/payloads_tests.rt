@@ -127,49 +127,44 @@ fn first_row_that_differs(rows: &[Row<'_>]) -> Option<usize> {
     None
 }
 
-#[test]
-fn padding_and_priority_are_taken_off(rt: HostRuntime) {
-    let rows: [Row<'_>; 7] = [
-        (
-            1,
-            0x28,
-            &[2, 0, 0, 0, 0, 15, 0x82, 0, 0],
-            Ok(Frame::Headers(&[0x82])),
-        ),
-        (
-            1,
-            0x28,
-            &[4, 0, 0, 0, 0, 15, 0x82, 0, 0],
-            Err(FrameFault::Protocol),
-        ),
-        (1, 0x20, &[4, 0, 0, 0], Err(FrameFault::Size)),
-        (0, 0x08, &[], Err(FrameFault::Size)),
-        (0, 0x09, b"\x02hi\0\0", Ok(Frame::Data(b"hi"))),
-        (0, 0x08, &[1], Err(FrameFault::Protocol)),
-        (9, 0x0c, &[1, 2], Ok(Frame::Continuation(&[1, 2]))),
-    ];
-    assert_eq!(rt; first_row_that_differs(&rows), None);
-}
+/// Payloads with padding and with a priority, and numbers.
+static ROWS: [Row<'static>; 13] = [
+    (
+        1,
+        0x28,
+        &[2, 0, 0, 0, 0, 15, 0x82, 0, 0],
+        Ok(Frame::Headers(&[0x82])),
+    ),
+    (
+        1,
+        0x28,
+        &[4, 0, 0, 0, 0, 15, 0x82, 0, 0],
+        Err(FrameFault::Protocol),
+    ),
+    (1, 0x20, &[4, 0, 0, 0], Err(FrameFault::Size)),
+    (0, 0x08, &[], Err(FrameFault::Size)),
+    (0, 0x09, b"\x02hi\0\0", Ok(Frame::Data(b"hi"))),
+    (0, 0x08, &[1], Err(FrameFault::Protocol)),
+    (9, 0x0c, &[1, 2], Ok(Frame::Continuation(&[1, 2]))),
+    (3, 0, &[0, 0, 1, 8], Ok(Frame::RstStream(264))),
+    (
+        3,
+        0,
+        &[0xff, 0xff, 0xff, 0xff],
+        Ok(Frame::RstStream(4294967295)),
+    ),
+    (
+        8,
+        0,
+        &[0xff, 0xff, 0, 1],
+        Ok(Frame::WindowUpdate(2147418113)),
+    ),
+    (8, 0, &[0x80, 0, 0, 0], Ok(Frame::WindowUpdate(0))),
+    (4, 1, &[], Ok(Frame::Settings(&[]))),
+    (4, 1, &[0; 6], Err(FrameFault::Size)),
+];
 
 #[test]
-fn numbers_are_read(rt: HostRuntime) {
-    let rows: [Row<'_>; 6] = [
-        (3, 0, &[0, 0, 1, 8], Ok(Frame::RstStream(264))),
-        (
-            3,
-            0,
-            &[0xff, 0xff, 0xff, 0xff],
-            Ok(Frame::RstStream(4294967295)),
-        ),
-        (
-            8,
-            0,
-            &[0xff, 0xff, 0, 1],
-            Ok(Frame::WindowUpdate(2147418113)),
-        ),
-        (8, 0, &[0x80, 0, 0, 0], Ok(Frame::WindowUpdate(0))),
-        (4, 1, &[], Ok(Frame::Settings(&[]))),
-        (4, 1, &[0; 6], Err(FrameFault::Size)),
-    ];
-    assert_eq!(rt; first_row_that_differs(&rows), None);
+fn payloads_are_read(rt: HostRuntime) {
+    assert_eq!(rt; first_row_that_differs(&ROWS), None);
 }

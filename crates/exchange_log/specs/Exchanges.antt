@@ -13,6 +13,8 @@ use Rattle.exchange_log.specs.declared.exchange.End.{End}
 use Rattle.exchange_log.specs.declared.exchange.End.TheVariants.{Whole, Refused, Reset, EndedEarly, NoResponse, Malformed, TooLong, GivenUp}
 use Rattle.exchange_log.specs.declared.exchange.Exchange.{Exchange}
 use Rattle.exchange_log.specs.declared.exchanges.Connection.{Connection}
+use Rattle.exchange_log.specs.declared.exchanges.Fate.{Fate}
+use Rattle.exchange_log.specs.declared.exchanges.Fate.TheVariants.{Ended, Failed, Closed}
 use Rattle.exchange_log.specs.declared.exchanges.Over.{Over}
 
 -- The line is what stands before the first carriage return, or all, where there is none (RFC 9112, section 3).
@@ -75,6 +77,12 @@ abbrev pub end_by_failure : Exchange → End
 end_by_failure e = if e.is_taken || nat_lt 0 e.received then Reset else Refused
 
 -- ---- connections
+
+-- How an exchange ends with its connection, by what becomes of that.
+abbrev pub IsOverBy : Fate → Exchange → End → Type 0
+IsOverBy Ended e end = IsEndedBy e end
+IsOverBy Failed e end = end ≡ end_by_failure e
+IsOverBy Closed e end = end ≡ GivenUp
 
 -- the exchange that is over where one of this route ends so, if there is one
 abbrev pub over_by : ℕ → End → Option Exchange → Option Over

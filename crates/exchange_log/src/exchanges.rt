@@ -3,7 +3,7 @@
 ghost use Rattle.std.specs.Prelude.{◌≡◌, Some, None, [], ◌∷◌, ◌++◌, MatchOption, OnOk, IfOk, is_none, false};
 ghost use Rattle.std.specs.Ordering.{nat_cmp};
 ghost use Rattle.std.specs.BTreeMap.{Updates, get};
-ghost use Rattle.exchange_log.specs.Exchanges.{IsPutBy, IsHeardBy, IsEndedBy, Becomes, HeardAt, EndedAt, and_over, over_by, all_given_up, end_by_failure, taken};
+ghost use Rattle.exchange_log.specs.Exchanges.{IsPutBy, IsHeardBy, IsEndedBy, IsOverBy, Becomes, HeardAt, EndedAt, and_over, over_by, all_given_up, end_by_failure, taken};
 
 use crate::exchange::{End, Exchange};
 use std::alloc::{AllocError, Global};
@@ -15,6 +15,17 @@ use std::time::Instant;
 pub struct Connection {
     route: u32,
     exchange: Option<Exchange>,
+}
+
+/// What becomes of a connection that isn't open any more.
+#[derive(Clone, Copy, Debug, PartialEq, Eq, Drop)]
+pub enum Fate {
+    /// Its upstream ended it.
+    Ended,
+    /// It failed.
+    Failed,
+    /// The gateway closed it.
+    Closed,
 }
 
 /// An exchange that is over.
@@ -37,6 +48,17 @@ pub struct Exchanges {
     /// Those that are open, by their numbers.
     connections: BTreeMap<u32, Connection>,
     over: VecDeque<Over>,
+}
+
+/// How an exchange ends with its connection, by what becomes of that.
+fn end_by(fate: Fate, exchange: &Exchange) -> End
+    ensures { IsOverBy fate exchange.now result }
+{
+    match fate {
+        Fate::Ended => exchange.end(),
+        Fate::Failed => exchange.fail(),
+        Fate::Closed => End::GivenUp,
+    }
 }
 
 impl Connection {
@@ -169,47 +191,26 @@ impl Exchanges {
     pub fn end(&mut self, k: u32) -> Result<(), AllocError>
         ensures { OnOk result (EndedAt k IsEndedBy self.old.connections self.new.connections self.old.over.items self.new.over.items) }
     {
-        let Some(
-            Connection {
-                route,
-                exchange: Some(exchange),
-            },
-        ) = self.connections.remove(&k)
-        else {
-            return Ok(());
-        };
-        let end = exchange.end();
-        self.tell(Over {
-            route,
-            exchange,
-            end,
-        })
+        self.finish(k, Fate::Ended)
     }
 
     /// A connection failed. An `Err` says that memory was refused.
     pub fn fail(&mut self, k: u32) -> Result<(), AllocError>
         ensures { OnOk result (EndedAt k (λ exchange end. end ≡ end_by_failure exchange) self.old.connections self.new.connections self.old.over.items self.new.over.items) }
     {
-        let Some(
-            Connection {
-                route,
-                exchange: Some(exchange),
-            },
-        ) = self.connections.remove(&k)
-        else {
-            return Ok(());
-        };
-        let end = exchange.fail();
-        self.tell(Over {
-            route,
-            exchange,
-            end,
-        })
+        self.finish(k, Fate::Failed)
     }
 
     /// The gateway closes a connection, whose exchange is given up, if it has one. An `Err` says that memory was refused.
     pub fn close(&mut self, k: u32) -> Result<(), AllocError>
         ensures { OnOk result (EndedAt k (λ _ end. end ≡ End.GivenUp) self.old.connections self.new.connections self.old.over.items self.new.over.items) }
+    {
+        self.finish(k, Fate::Closed)
+    }
+
+    /// This becomes of a connection: it isn't open any more, and its exchange, if it has one, is to be told. An `Err` says that memory was refused.
+    fn finish(&mut self, k: u32, fate: Fate) -> Result<(), AllocError>
+        ensures { OnOk result (EndedAt k (IsOverBy fate) self.old.connections self.new.connections self.old.over.items self.new.over.items) }
     {
         let Some(
             Connection {
@@ -220,7 +221,7 @@ impl Exchanges {
         else {
             return Ok(());
         };
-        let end = End::GivenUp;
+        let end = end_by(fate, &exchange);
         self.tell(Over {
             route,
             exchange,

@@ -1,2 +1,3 @@
 pub use Rattle.model.specs.Windows
 pub mod HeldInside
+pub use Rattle.model.specs.Limits

@@ -2,14 +2,16 @@
 #![tactic(auto)]
 
 ghost use Rattle.std.specs.Prelude.{◌≡◌, ◌≤◌, pos, ◌+ℤ◌, ◌-ℤ◌, ◌≤ℤ◌, IfOk, OnOk, OnErr};
-ghost use Rattle.model.specs.Windows.{greatest_window, IsPast, IsAboveLeast, IsSize};
+ghost use Rattle.model.specs.Windows.{IsPast, IsAboveLeast, IsSize};
+ghost use Rattle.model.specs.Limits.{greatest_window};
 
 pub mod laws;
 
+use protocol::limits::GREATEST_WINDOW;
 use std::marker::Model;
 
 /// The greatest size that a window may have (RFC 9113, section 6.9.1).
-const GREATEST: i64 = 2147483647;
+const GREATEST: i64 = GREATEST_WINDOW as i64;
 
 /// A window would pass 2,147,483,647, which is an error of its stream or of the connection (RFC 9113, section 6.9.1), or fall
 /// below -2,147,483,647, which no frame of a peer brings about.

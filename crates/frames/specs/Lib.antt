@@ -1,4 +1,5 @@
 pub mod Views
+pub mod Parts
 pub mod Parsed
 pub use Rattle.model.specs.Frames
 pub use Rattle.model.specs.Payloads

@@ -2,8 +2,9 @@
 use Rattle.std.specs.Prelude.{◌≡◌, ℕ, ◌%◌, Bool, false, ◌||◌, ◌==◌}
 use Rattle.model.specs.Frames as model
 use Rattle.model.specs.Frames.{data_kind, headers_kind, rst_stream_kind, settings_kind, ping_kind, window_update_kind, continuation_kind, content}
-use Rattle.model.specs.Payloads.{Parts, PayloadFault, number_field}
+use Rattle.model.specs.Payloads.{PayloadFault, number_field}
 use Rattle.model.specs.Payloads.PayloadFault.{WrongSize, OverPadded}
+use Rattle.frames.specs.Parts.{Parts}
 use Rattle.frames.specs.declared.parts.Frame.{Frame}
 use Rattle.frames.specs.declared.parts.Frame.TheVariants.{Data, Headers, RstStream, Settings, Ping, WindowUpdate, Continuation, Other}
 use Rattle.frames.specs.declared.parts.FrameFault.{FrameFault}

@@ -6,11 +6,11 @@ ghost use Rattle.model.specs.WindowsOnTape.{has_settings};
 ghost use Rattle.model.specs.FrameErrors.{is_misplaced};
 ghost use Rattle.frames.specs.Views.{frame_of};
 
-use crate::kinds::{
-    ACK, CONTINUATION, DATA, END_HEADERS, END_STREAM, GOAWAY, HEADERS, PING, PRIORITY,
-    PUSH_PROMISE, RST_STREAM, SETTINGS,
-};
 use crate::views::View;
+use protocol::flags::{ACK, END_HEADERS, END_STREAM};
+use protocol::frame_types::{
+    CONTINUATION, DATA, GOAWAY, HEADERS, PING, PRIORITY, PUSH_PROMISE, RST_STREAM, SETTINGS,
+};
 
 /// Whether a flag is set, by the value of its bit.
 pub(crate) fn has_flag(view: View<'_>, flag: u8) -> bool

@@ -7,7 +7,6 @@ ghost use Rattle.model.specs.Frames.{spell, Fits};
 ghost use Rattle.frames.specs.Views.{frame_of, with_payload, joined, IsSplit};
 
 mod flags;
-mod kinds;
 mod parts;
 mod payload;
 mod views;
@@ -15,14 +14,10 @@ mod views;
 pub use flags::{ends_headers, ends_stream, has_settings, is_ack, is_misplaced};
 pub use parts::{Frame, FrameFault};
 pub use payload::parse;
+use protocol::lengths::FRAME_HEADER;
+use protocol::limits::LONGEST_PAYLOAD;
 use std::alloc::AllocError;
 pub use views::{Split, View};
-
-/// The octets before the payload: its length in three, the type, the flags, and the stream's number in four.
-const HEADER: usize = 9;
-
-/// The longest payload that is read (RFC 9113, section 4.2: the first value of SETTINGS_MAX_FRAME_SIZE).
-const LONGEST: usize = 16384;
 
 /// Splits off the frame with which `octets` begin, and says how many octets it takes.
 ///
@@ -32,14 +27,14 @@ const LONGEST: usize = 16384;
 pub fn split(octets: &[u8]) -> Split<'_>
     ensures { IsSplit octets.now result }
 {
-    if octets.len() < HEADER {
+    if octets.len() < FRAME_HEADER {
         return Split::More;
     }
     let length = octets[0] as usize * 65536 + octets[1] as usize * 256 + octets[2] as usize;
-    if length > LONGEST {
+    if length > LONGEST_PAYLOAD {
         return Split::TooLong;
     }
-    if octets.len() - HEADER < length {
+    if octets.len() - FRAME_HEADER < length {
         return Split::More;
     }
     let id = (octets[5] % 128) as u32 * 16777216
@@ -50,9 +45,9 @@ pub fn split(octets: &[u8]) -> Split<'_>
         kind: octets[3],
         flags: octets[4],
         id,
-        payload: &octets[HEADER..HEADER + length],
+        payload: &octets[FRAME_HEADER..FRAME_HEADER + length],
     };
-    Split::Frame(view, HEADER + length)
+    Split::Frame(view, FRAME_HEADER + length)
 }
 
 /// Writes a frame at the end of `out`, with the reserved bit 0 (RFC 9113, section 4.1).
@@ -81,14 +76,14 @@ pub fn write_joined(view: &View<'_>, more: &[u8], out: &mut Vec<u8>) -> Result<(
 {
     let count = view.payload.len() + more.len();
     let header = header_of(view, count);
-    out.reserve(HEADER + count)?;
+    out.reserve(FRAME_HEADER + count)?;
     out.extend_from_slice(&header)?;
     out.extend_from_slice(view.payload)?;
     out.extend_from_slice(more)
 }
 
 /// The octets before a payload of so many octets.
-fn header_of(view: &View<'_>, count: usize) -> [u8; 9]
+fn header_of(view: &View<'_>, count: usize) -> [u8; FRAME_HEADER]
     requires count { count ≤ 16384 }
     requires stream { view.now.id < 2147483648 }
     ensures { (payload : List ℕ) → length payload ≡ count → result ++ payload ≡ spell (with_payload view.now payload) }

@@ -2,30 +2,19 @@
 
 ghost use Rattle.std.specs.Prelude.{◌≡◌, ◌+◌, ◌<◌, ◌≤◌, length, IfOk, IfErr, Some, None};
 ghost use Rattle.model.specs.Frames.{is_padded, content_offset, pad_length, content};
-ghost use Rattle.model.specs.Payloads.{is_sized, is_over_padded, payload_fault, parts_of, number_field};
+ghost use Rattle.model.specs.Payloads.{is_sized, is_over_padded, payload_fault, number_field};
+ghost use Rattle.frames.specs.Parts.{parts_of};
 ghost use Rattle.frames.specs.Views.{frame_of};
 ghost use Rattle.frames.specs.Parsed.{parts_in, fault_of, Says};
 
 use crate::flags::has_flag;
-use crate::kinds::{
-    ACK, CONTINUATION, DATA, GOAWAY, HEADERS, PADDED, PING, PRIORITY, PRIORITY_FLAG, RST_STREAM,
-    SETTINGS, WINDOW_UPDATE,
-};
 use crate::parts::{Frame, FrameFault};
 use crate::views::View;
-
-/// The lengths in octets of payloads and their parts (RFC 9113, section 6), that of GOAWAY without its debug data.
-const PAD_LENGTH: usize = 1;
-
-const PRIORITY_LENGTH: usize = 5;
-
-const NUMBER_LENGTH: usize = 4;
-
-const ENTRY_LENGTH: usize = 6;
-
-const PING_LENGTH: usize = 8;
-
-const GOAWAY_LENGTH: usize = 8;
+use protocol::flags::{ACK, PADDED, PRIORITY_FLAG, RESERVED_BIT};
+use protocol::frame_types::{
+    CONTINUATION, DATA, GOAWAY, HEADERS, PING, PRIORITY, RST_STREAM, SETTINGS, WINDOW_UPDATE,
+};
+use protocol::lengths;
 
 /// What the frame's payload says, by its type and flags (RFC 9113, section 6), without padding, priority octets and
 /// reserved bits. Octets are slices of the payload. Flags that the type doesn't define are ignored, and what padding
@@ -55,11 +44,12 @@ fn is_sized(view: View<'_>) -> bool
     let length = view.payload.len();
     match view.kind {
         DATA | HEADERS => length >= content_offset(view),
-        PRIORITY => length == PRIORITY_LENGTH,
-        RST_STREAM | WINDOW_UPDATE => length == NUMBER_LENGTH,
-        SETTINGS => length % ENTRY_LENGTH == 0 && (!has_flag(view, ACK) || length == 0),
-        PING => length == PING_LENGTH,
-        GOAWAY => length >= GOAWAY_LENGTH,
+        PRIORITY => length == lengths::PRIORITY,
+        RST_STREAM => length == lengths::RST_STREAM,
+        WINDOW_UPDATE => length == lengths::WINDOW_UPDATE,
+        SETTINGS => length % lengths::SETTING == 0 && (!has_flag(view, ACK) || length == 0),
+        PING => length == lengths::PING,
+        GOAWAY => length >= lengths::GOAWAY,
         _ => true,
     }
 }
@@ -84,7 +74,7 @@ fn parts_of(view: View<'_>) -> Frame<'_>
         RST_STREAM => Frame::RstStream(number(view.payload)),
         SETTINGS => Frame::Settings(view.payload),
         PING => Frame::Ping(view.payload),
-        WINDOW_UPDATE => Frame::WindowUpdate(number(view.payload) % 2147483648),
+        WINDOW_UPDATE => Frame::WindowUpdate(number(view.payload) % RESERVED_BIT),
         CONTINUATION => Frame::Continuation(view.payload),
         _ => Frame::Other,
     }
@@ -101,9 +91,13 @@ fn is_padded(view: View<'_>) -> bool
 fn content_offset(view: View<'_>) -> usize
     ensures { result ≡ content_offset (frame_of view.entry) }
 {
-    let pad_length = if is_padded(view) { PAD_LENGTH } else { 0 };
+    let pad_length = if is_padded(view) {
+        lengths::PAD_LENGTH
+    } else {
+        0
+    };
     let priority = if view.kind == HEADERS && has_flag(view, PRIORITY_FLAG) {
-        PRIORITY_LENGTH
+        lengths::PRIORITY
     } else {
         0
     };

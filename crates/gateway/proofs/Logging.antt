@@ -92,13 +92,15 @@ in_step_behind known [] run k answered = rw answered (in_step_first known [] ref
 in_step_behind known (step ∷ earlier) run k answered = in_step known run k (subst (RestsBehind known.setup) (sym answered.2) answered.3.rests)
 
 -- what is promised of the log, by the tape of these moves
-pub promised_by : (setup : Setup) (g : Standing) (log : List Step) (run : List Move) → Stands setup g log run → (promise : Promise setup (reverse log)) × (promise.tape ≡ tape_of run) × (promise.known ≡ known_of setup (conducts run))
+pub promised_by : (setup : Setup) (g : Standing) (log : List Step) (run : List Move) → Stands setup g log run → (promise : Promise setup (reverse log)) × (promise.headline.tape ≡ tape_of run) × (promise.headline.known ≡ known_of setup (conducts run))
 promised_by setup g log run stands = (
   record {
-    known = known;
-    of_setup = refl;
-    tape = tape_of run;
-    has_tape = subst (λ l. HasTape known l (tape_of run)) (sym (reverse-reverse log)) (has_tape known log run k by);
+    headline = record {
+      known = known;
+      of_setup = refl;
+      tape = tape_of run;
+      has_tape = subst (λ l. HasTape known l (tape_of run)) (sym (reverse-reverse log)) (has_tape known log run k by);
+    };
     in_step = record { encoding = (state_of setup run).tables.encoding.table; decoding = (state_of setup run).tables.decoding; in_step = in_step_behind known log run k by };
   },
   refl,

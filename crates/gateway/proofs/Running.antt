@@ -47,9 +47,9 @@ log_events (x ∷ events) (y ∷ outs) zero event e found = absurd (let no : suc
 log_events (x ∷ events) (y ∷ outs) (suc n) event e found = ap (λ l. event_of x ∷ l) (log_events events outs n event (let less : suc (length outs) ≡ suc n = e in omega arith) found)
 
 -- what is promised of the log, the oldest step first, by the tape of the moves behind which the gateway stands
-pub promised_at : (setup : Setup) (g : Standing) (log : List logs.Step) (run : List Move) → Stands setup g (reverse log) run → (promise : Promise setup log) × (promise.tape ≡ tape_of run) × (promise.known ≡ known_of setup (conducts run))
+pub promised_at : (setup : Setup) (g : Standing) (log : List logs.Step) (run : List Move) → Stands setup g (reverse log) run → (promise : Promise setup log) × (promise.headline.tape ≡ tape_of run) × (promise.headline.known ≡ known_of setup (conducts run))
 promised_at setup g log run stands =
-    subst (λ (l : List logs.Step). (promise : Promise setup l) × (promise.tape ≡ tape_of run) × (promise.known ≡ known_of setup (conducts run))) (reverse-reverse log) (promised_by setup g (reverse log) run stands)
+    subst (λ (l : List logs.Step). (promise : Promise setup l) × (promise.headline.tape ≡ tape_of run) × (promise.headline.known ≡ known_of setup (conducts run))) (reverse-reverse log) (promised_by setup g (reverse log) run stands)
 
 -- the gateway stands for the log of these events
 pub record Running (setup : Setup) (events : List Event) (outs : List (Vec Output Global)) (g : Standing) : Type 0 where
@@ -126,7 +126,7 @@ running_refused setup events n outs g event lt at turned r =
       event = event_of event;
       found = get_mapped events n event lt at;
       promise = promise.0;
-      refused = λ may. turned setup (reverse (log_of events outs)) here.run here.stands (subst (λ t. IsAdmitted (known_of setup (conducts here.run)) t (event_of event)) promise.1 (subst (λ k. IsAdmitted k promise.0.tape (event_of event)) promise.2 may));
+      refused = λ may. turned setup (reverse (log_of events outs)) here.run here.stands (subst (λ t. IsAdmitted (known_of setup (conducts here.run)) t (event_of event)) promise.1 (subst (λ k. IsAdmitted k promise.0.headline.tape (event_of event)) promise.2 may));
     }
 
 -- memory was refused at it

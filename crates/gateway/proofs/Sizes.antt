@@ -12,7 +12,7 @@ use Rattle.offering.specs.State as offering
 use Rattle.upstreams.specs.Kept.{nothing}
 use Rattle.header_blocks.specs.Encoding.{first_encoding}
 use Rattle.model.specs.Tables.{first_table, total_size}
-use Rattle.model.specs.Windows.{first_window}
+use Rattle.model.specs.Limits.{first_window}
 use Rattle.judgement.specs.Inbound.{book_of}
 use Rattle.receiving.specs.Marks.{total}
 use Rattle.marks_kept.specs.Sides.{Side, queue_of}

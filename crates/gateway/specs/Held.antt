@@ -1,7 +1,7 @@
 -- How many octets a gateway holds between steps, its configuration aside, and how many it may.
 use Rattle.std.specs.Prelude.{ℕ, ◌+◌, ◌*◌, ◌≤◌, length}
 use Rattle.model.specs.Setup.{Setup}
-use Rattle.model.specs.Windows.{first_window}
+use Rattle.model.specs.Limits.{first_window}
 use Rattle.marks_kept.specs.Sides.{queue_of}
 use Rattle.holding.specs.Held as rooms
 use Rattle.gateway.specs.Stands.{Standing}

@@ -26,7 +26,7 @@ pub record IsRefusedAt (setup : Setup) (events : List logs.Event) (place : ℕ) 
   pub log : List Step
   pub are_events : map (λ step. step.event) log ≡ take place events
   pub promise : Promise setup log
-  pub refused : IsAdmitted promise.known promise.tape event → ⊥
+  pub refused : IsAdmitted promise.headline.known promise.headline.tape event → ⊥
 
 -- What a fault says: the event at the place may not come after those before it; or that memory was refused there.
 abbrev pub Explains : Setup → List logs.Event → RunFault → Type 0
@@ -41,7 +41,7 @@ pub record IsRefusedBehind (setup : Setup) (events : List Event) (outputs : List
   pub event : logs.Event
   pub found : slice_get (map event_of events) place ≡ Some event
   pub promise : Promise setup (log_of events outputs)
-  pub refused : IsAdmitted promise.known promise.tape event → ⊥
+  pub refused : IsAdmitted promise.headline.known promise.headline.tape event → ⊥
 
 -- What is promised holds of the log of what was put out at the events before a place, at which there is one.
 pub record IsCutAt (setup : Setup) (events : List Event) (outputs : List (Vec Output Global)) (place : ℕ) : Type 0 where

@@ -1,11 +1,13 @@
 //! What a gateway is set up with.
 
-ghost use Rattle.std.specs.Prelude.{◌≡◌, ◌≤◌, map, IfOk};
+ghost use Rattle.std.specs.Prelude.{◌≡◌, ◌≤◌, false, map, IfOk};
 ghost use Rattle.tables.specs.State.{inserts};
 ghost use Rattle.header_blocks.specs.Encoding.{is_indexing};
 ghost use Rattle.steps.specs.Resting.{IsPassedBy};
 ghost use Rattle.gateway.specs.Held.{held_bound};
 ghost use Rattle.gateway.specs.Setups.{route_of, policy_of, setup_of};
+ghost use Rattle.gateway.specs.declared.config.Policy.TheVariants.{Plain};
+ghost use Rattle.gateway.specs.declared.config.Passing.TheVariants.{Whole};
 
 use std::alloc::{AllocError, Global};
 use std::string::String;
@@ -57,6 +59,21 @@ pub struct Config {
 }
 
 impl Config {
+    /// What the configuration of these routes is where it says nothing else: blocks are written without the dynamic table, bodies are passed on whole, those of
+    /// requests and of responses have at most 1,048,576 octets, and no upstream connection is kept.
+    pub fn new(routes: Vec<Route>) -> Config
+        ensures { result ≡ record { routes = routes; policy = Plain; passing = Whole; max_body = 1048576; max_response = 1048576; keep = false } }
+    {
+        Config {
+            routes,
+            policy: Policy::Plain,
+            passing: Passing::Whole,
+            max_body: 1_048_576,
+            max_response: 1_048_576,
+            keep: false,
+        }
+    }
+
     /// The most octets that a gateway with this configuration holds between two steps, the configuration itself aside.
     pub fn held_bound(&self) -> u64
         requires body { self.now.max_body ≤ 1073741824 }

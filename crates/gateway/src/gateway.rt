@@ -1,6 +1,6 @@
 //! The gateway: events in, outputs out.
 
-ghost use Rattle.std.specs.Prelude.{◌≡◌, ◌≤◌, ◌++◌, ◌||◌, ℕ, [], List, ◌∷◌, map, Some, true, false, length, OnOk, OnErr, IfOk, IsErrOf, ◌↔◌};
+ghost use Rattle.std.specs.Prelude.{◌≡◌, ◌≤◌, ◌++◌, ◌||◌, ◌&&◌, nat_le, ℕ, [], List, ◌∷◌, map, Some, true, false, length, OnOk, OnErr, IfOk, IsErrOf, ◌↔◌};
 ghost use Rattle.std.specs.List.{list_any};
 ghost use Rattle.model.specs.Logs.{Step, Output as Put};
 ghost use Rattle.model.specs.Logs.Event.{Client};
@@ -38,29 +38,27 @@ use judgement::{Connection, Terms};
 use marks_kept::Marks;
 use offers::Offers;
 use outputs::{Event, Output, Outputs};
+use protocol::limits::{GREATEST_UNTAKEN, LARGEST_EVENT};
 use relay::Rooms;
 use std::alloc::{AllocError, Global};
 use std::marker::Model;
 use std::mem;
 use steps::paying::greet;
 use steps::{Breach, Service, Went, client_took, end, fail, hear, leave, leave_at, up_took};
+use thiserror::Error;
 use upstreams::Upstreams;
 
 /// How many octets of an upstream may come in one event, where none of its response wait.
-const ROOM: usize = 65536;
-
-/// How many octets of the client may come in one event.
-const MOST_OF_CLIENT: usize = 65536;
-
-/// While more octets than these aren't taken by the client's side, no more of its own come.
-const MOST_UNTAKEN: u64 = 1073741824;
+const ROOM: usize = LARGEST_EVENT;
 
 /// Why a step is refused.
-#[derive(Clone, Copy, PartialEq, Eq, Debug)]
+#[derive(Clone, Copy, PartialEq, Eq, Debug, Drop, Error)]
 pub enum Fault {
     /// Memory was refused, and the gateway is closed.
+    #[error("memory was refused, and the gateway is closed")]
     Memory,
     /// Memory was refused before.
+    #[error("memory was refused before")]
     Closed,
 }
 
@@ -233,6 +231,16 @@ impl Gateway {
         self.rooms.upstreams.find(k).is_some()
     }
 
+    /// Whether the connection to an upstream is open, and has room for so many octets.
+    fn fits(&self, k: u32, count: usize) -> bool
+        ensures { result ≡ (is_up self.now.kept k && nat_le count (room_on self.now.kept k)) }
+    {
+        match self.rooms.upstreams.find(k) {
+            Some(connection) => count <= self.room_with(connection),
+            None => false,
+        }
+    }
+
     /// Whether the side of an open upstream may have taken so many octets more.
     fn may_take(&self, k: u32, count: u64) -> bool
         ensures { result ≡ may_take (find number_of k self.now.kept.upstreams.live) count }
@@ -261,11 +269,11 @@ impl Gateway {
     {
         match event {
             Event::Client(piece) => {
-                piece.len() <= MOST_OF_CLIENT && self.rooms.untaken <= MOST_UNTAKEN
+                piece.len() <= LARGEST_EVENT && self.rooms.untaken <= GREATEST_UNTAKEN
             }
             Event::ClientEnd => true,
             Event::ClientTook(count) => *count <= self.rooms.untaken,
-            Event::Up(k, piece) => self.is_up(*k) && piece.len() <= self.room_on(*k),
+            Event::Up(k, piece) => self.fits(*k, piece.len()),
             Event::UpEnd(k) | Event::UpFailed(k) => self.is_up(*k),
             Event::UpTook(k, count) => self.may_take(*k, *count),
         }
@@ -286,12 +294,17 @@ impl Gateway {
         ensures { result ≡ room_on self.now.kept k }
     {
         match self.rooms.upstreams.find(k) {
-            Some(connection) => {
-                let mut guess = 0;
-                room_of(&self.rooms.offers, connection, &mut guess)
-            }
+            Some(connection) => self.room_with(connection),
             None => 0,
         }
+    }
+
+    /// How many of an open connection may.
+    fn room_with(&self, connection: &upstreams::Connection) -> usize
+        ensures { result ≡ room_for self.now.kept.offers (Some connection.now) }
+    {
+        let mut guess = 0;
+        room_of(&self.rooms.offers, connection, &mut guess)
     }
 
     /// Lists the open connections to upstreams in `rooms`, in place of what it has, by rising number, each with how many octets of it may come

@@ -9,12 +9,10 @@ ghost use Rattle.gateway.specs.Reading.{Reads, completing_in, used_in, RestsIn};
 
 use frames::{Split, split};
 use outputs::Outputs;
+use protocol::lengths::FRAME_HEADER;
 use relay::Rooms;
 use std::alloc::{AllocError, Global};
 use steps::{Breach, Service, Went, leave_at, take_frame};
-
-/// The octets of a frame's header (RFC 9113, section 4.1).
-const HEADER: usize = 9;
 
 /// The octet at a place of two texts, one behind the other; 0 behind both.
 #[tactic(auto, using(crate::proofs::Octets::in_front, crate::proofs::Octets::behind))]
@@ -37,7 +35,7 @@ pub fn completing(waiting: &[u8], piece: &[u8]) -> usize
     let length = octet_at(waiting, piece, 0) * 65536
         + octet_at(waiting, piece, 1) * 256
         + octet_at(waiting, piece, 2);
-    (HEADER + length)
+    (FRAME_HEADER + length)
         .saturating_sub(waiting.len())
         .min(piece.len())
 }

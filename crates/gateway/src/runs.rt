@@ -12,13 +12,16 @@ use crate::config::Config;
 use crate::gateway::Gateway;
 use outputs::{Event, Output};
 use std::alloc::Global;
+use thiserror::Error;
 
 /// Why a run is refused. The number is the event's place, from 0.
-#[derive(Clone, Copy, PartialEq, Eq, Debug)]
+#[derive(Clone, Copy, PartialEq, Eq, Debug, Drop, Error)]
 pub enum RunFault {
     /// The event may not come after those before it.
+    #[error("the event at place {0} may not come after those before it")]
     NotAdmitted(usize),
     /// Memory was refused at the event; at 0 also where the routes couldn't be copied.
+    #[error("memory was refused at the event at place {0}")]
     Memory(usize),
 }
 

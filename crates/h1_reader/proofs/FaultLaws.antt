@@ -11,7 +11,8 @@ use Rattle.model.specs.Http1.{crlf}
 use Rattle.model.specs.ResponseHeads as model
 use Rattle.model.specs.ResponseHeads.{framing_of}
 use Rattle.model.specs.ResponseHeads.Framing.{Chunks as IsChunks}
-use Rattle.model.specs.Responses.{ChunkLine, HasBody, IsSpoilt, IsNoLine}
+use Rattle.model.specs.Responses.{ChunkLine, HasBody, IsSpoilt}
+use Rattle.model.specs.Noticing.{IsNoLine}
 use Rattle.model.proofs.Http1Runs.{same_rest, BeginsNone, one_joined}
 use Rattle.model.proofs.ResponseHeadReadings.{Spelled, spelled_reads, one_spelled, one_interim, none_at_final, one_front}
 use Rattle.response_texts.specs.Heads.{HasNoHead}

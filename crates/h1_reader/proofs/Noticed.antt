@@ -11,7 +11,8 @@ use Rattle.model.specs.Http1.{crlf}
 use Rattle.model.specs.ResponseHeads as model
 use Rattle.model.specs.ResponseHeads.Framing.{Chunks as IsChunks, Sized as IsSized, UntilEnd as IsUntilEnd}
 use Rattle.model.specs.Responses as responses
-use Rattle.model.specs.Responses.{ChunkLine, Chunk as IsChunk, Chunked, IsTrailers, HasBody, IsBadHead, AreBadTrailers, IsBadChunk, PlainlyBefore, PlainlyBehind, IsPlainlyBad}
+use Rattle.model.specs.Responses.{ChunkLine, Chunk as IsChunk, Chunked, IsTrailers, HasBody}
+use Rattle.model.specs.Noticing.{IsBadHead, AreBadTrailers, IsBadChunk, PlainlyBefore, PlainlyBehind, IsPlainlyBad}
 use Rattle.model.proofs.Http1Runs.{same_front, same_rest, BeginsNone, one_joined}
 use Rattle.model.proofs.ResponseHeadReadings.{one_spelled, one_interim, none_at_final, none_without_head, one_front, spelled_reads}
 use Rattle.model.proofs.ResponseBodies.{one_chunk_line, one_response_chunk, none_at_last}

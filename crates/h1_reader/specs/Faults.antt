@@ -4,7 +4,9 @@ use Rattle.model.specs.Octets.{Joined}
 use Rattle.model.specs.ResponseHeads as model
 use Rattle.model.specs.ResponseHeads.{Interim, Final}
 use Rattle.model.specs.ResponseHeads.Framing.{Chunks}
-use Rattle.model.specs.Responses.{most_interims, ChunkLine, Chunk as IsChunk, IsNoLine, IsBadChunkEnd}
+use Rattle.model.specs.Responses.{ChunkLine, Chunk as IsChunk}
+use Rattle.model.specs.Limits.{most_interims}
+use Rattle.model.specs.Noticing.{IsNoLine, IsBadChunkEnd}
 use Rattle.response_texts.specs.SectionFaults.{HeadFault, TrailerFault}
 use Rattle.response_texts.specs.declared.fault.ResponseFault.{ResponseFault}
 use Rattle.response_texts.specs.declared.fault.ResponseFault.TheVariants as fault

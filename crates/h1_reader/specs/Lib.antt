@@ -15,3 +15,4 @@ pub use Rattle.model.specs.Messages
 pub use Rattle.model.specs.ResponseHeads
 pub use Rattle.model.specs.Responses
 pub use Rattle.model.specs.Idle
+pub use Rattle.model.specs.Limits

@@ -1,6 +1,6 @@
 -- How many octets the names and values of what was told have.
 use Rattle.std.specs.Prelude.{ℕ, ◌≤◌, List, All}
-use Rattle.model.specs.ResponseHeads.{longest_section}
+use Rattle.model.specs.Limits.{longest_section}
 use Rattle.response_texts.specs.HeadSizes.{field_octets}
 use Rattle.h1_reader.specs.Parts.{Part}
 use Rattle.h1_reader.specs.Parts.Part.{Interim, Final, Trailing}

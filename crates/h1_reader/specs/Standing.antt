@@ -5,9 +5,10 @@ use Rattle.httparse.specs.Grammar.{HasNoResponse, MayBecomeResponse, HasNoSectio
 use Rattle.model.specs.Octets.{Joined}
 use Rattle.model.specs.ResponseHeads as model
 use Rattle.model.specs.Messages.{Field}
-use Rattle.model.specs.ResponseHeads.{longest_section, named_by_connection}
+use Rattle.model.specs.ResponseHeads.{named_by_connection}
+use Rattle.model.specs.Limits.{longest_section, most_interims}
 use Rattle.model.specs.ResponseHeads.Framing.{Chunks as IsChunks, Sized as IsSized, UntilEnd as IsUntilEnd}
-use Rattle.model.specs.Responses.{most_interims, Response, H1Response, ChunkLine, Chunk as IsChunk, HasBody, IsComplete, IsSpoilt, Seen}
+use Rattle.model.specs.Responses.{Response, H1Response, ChunkLine, Chunk as IsChunk, HasBody, IsComplete, IsSpoilt, Seen}
 use Rattle.response_texts.specs.ChunkLines.{IsLinePart, IsInRange}
 use Rattle.h1_reader.specs.Parts.{Part, ends_with}
 use Rattle.h1_reader.specs.Parts.Part.{Interim, Final, Body, Done}

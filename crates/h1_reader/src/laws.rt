@@ -2,7 +2,8 @@
 
 ghost use Rattle.std.specs.Prelude.{◌≡◌, ◌≤◌, ◌++◌, ◌&&◌, ◌==◌, ℕ, Bool, true, false, List, [], length, is_some};
 ghost use Rattle.model.specs.ResponseHeads.{Head, Framing, Interim, Final};
-ghost use Rattle.model.specs.Responses.{IsComplete, IsSpoilt, IsPlainlyBad, Seen};
+ghost use Rattle.model.specs.Responses.{IsComplete, IsSpoilt, Seen};
+ghost use Rattle.model.specs.Noticing.{IsPlainlyBad};
 ghost use Rattle.h1_reader.specs.Parts.{Part};
 ghost use Rattle.response_texts.specs.HeadSizes.{field_octets};
 ghost use Rattle.h1_reader.specs.PartSizes.{HeadsAreShort};

@@ -5,7 +5,7 @@ use Rattle.std.specs.Option.{ForSome}
 use Rattle.std.proofs.lemmas.Bool.{cases_lt, lt-ltb, le-ltb, eq-eqb, eqb-true}
 use Rattle.std.proofs.lemmas.List.{map-append}
 use Rattle.std.proofs.lemmas.List.Elements.{All-append, All-cons, All-nil, All-weaker, Contains-append_left, Contains-push}
-use Rattle.model.specs.Tables.{first_maximum}
+use Rattle.model.specs.Limits.{first_maximum}
 use Rattle.model.specs.Maxima.{counted, IsLeast, Maxima}
 use Rattle.header_blocks.specs.Encoding.{limits_with, AreEndsOf, StandsFor}
 use Rattle.header_blocks.specs.Due.{AreInRange, IsDue}

@@ -1,7 +1,8 @@
 -- What changes a table keeps its bounds.
 use Rattle.std.proofs.Common.{◌≡◌, ◌≤◌, ℕ, ◌∷◌, Result, Ok, Err, OnOk, OnErr, arith, subst, sym}
 use Rattle.model.specs.Messages.{Field}
-use Rattle.model.specs.Tables.{Table, added, resized, first_maximum}
+use Rattle.model.specs.Tables.{Table, added, resized}
+use Rattle.model.specs.Limits.{first_maximum}
 use Rattle.model.proofs.KeepLemmas.{keep_fits}
 use Rattle.header_blocks.specs.Bounds.{IsBounded}
 

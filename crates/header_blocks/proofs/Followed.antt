@@ -6,7 +6,8 @@ use Rattle.std.proofs.lemmas.Bool.{eq-eqb, eqb-true, ltb-false}
 use Rattle.model.specs.Frames.{Frame, headers_kind, continuation_kind, ends_headers, ends_stream, content}
 use Rattle.model.specs.Tapes.{Noted}
 use Rattle.model.specs.Decoding.{Partial, joined, begun, completed}
-use Rattle.model.specs.FrameErrors.{is_between, is_long, longest_block, most_continuations, last_continuations}
+use Rattle.model.specs.FrameErrors.{is_between, is_long, last_continuations}
+use Rattle.model.specs.Limits.{longest_block, most_continuations}
 use Rattle.header_blocks.specs.Joining.{Joining, nothing_begun, continuations_with, is_too_long, misplaced, fault_at, begins, continues, HasRoom}
 use Rattle.header_blocks.specs.Following.{IsKeptOf}
 use Rattle.header_blocks.specs.declared.join_fault.JoinFault.{JoinFault}

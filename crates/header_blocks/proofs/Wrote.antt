@@ -6,7 +6,8 @@ use Rattle.std.proofs.lemmas.Bool.{cases_lt}
 use Rattle.std.proofs.Math.Seq.{take-append_seam}
 use Rattle.model.specs.Octets.{IsFront}
 use Rattle.model.specs.Messages.{Field}
-use Rattle.model.specs.Tables.{Table, look_up, added, resized, keep, first_maximum, field_size}
+use Rattle.model.specs.Tables.{Table, look_up, added, resized, keep, field_size}
+use Rattle.model.specs.Limits.{first_maximum}
 use Rattle.model.specs.Huffman.{Huff}
 use Rattle.model.specs.Integers.{IsMarkedInt}
 use Rattle.model.specs.Blocks.{IsString, IsNewName, IsNameOfEntry, Represents, AreFields, AreMaxima}

@@ -1,7 +1,7 @@
 -- The maxima with which a block begins.
 use Rattle.std.specs.Prelude.{◌≡◌, ℕ, ◌≤◌, List, ◌++◌, Option, unwrap_or, option_to_list}
 use Rattle.std.specs.Option.{ForSome}
-use Rattle.model.specs.Tables.{first_maximum}
+use Rattle.model.specs.Limits.{first_maximum}
 use Rattle.model.specs.Maxima.{Maxima}
 use Rattle.header_blocks.specs.Encoding.{StandsFor}
 use Rattle.header_blocks.specs.declared.limits.Limits.{Limits}

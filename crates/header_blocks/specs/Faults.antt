@@ -3,7 +3,8 @@
 use Rattle.std.specs.Prelude.{◌≡◌, ℕ, ◌+◌, ◌/◌, ◌≤◌, ◌<◌, ◌⊎◌, List, [], ◌∷◌, length, take, drop, slice_index, None}
 use Rattle.model.specs.Messages.{Field}
 use Rattle.model.specs.Huffman.{Huff}
-use Rattle.model.specs.Tables.{Table, look_up, first_maximum}
+use Rattle.model.specs.Tables.{Table, look_up}
+use Rattle.model.specs.Limits.{first_maximum}
 use Rattle.model.specs.Blocks.{IsBlock}
 use Rattle.hpack_int.specs.Reading.{ReadsValue, NeedsMore, IsBad}
 use Rattle.header_blocks.specs.Represented.{TakesName}

@@ -3,7 +3,8 @@ use Rattle.std.specs.Prelude.{◌≡◌, ℕ, suc, ◌+◌, ◌≤◌, ◌<◌, 
 use Rattle.std.specs.Option.{ForSome}
 use Rattle.model.specs.Frames.{Frame, continuation_kind}
 use Rattle.model.specs.Decoding.{Partial, joined}
-use Rattle.model.specs.FrameErrors.{is_between, is_long, longest_block, most_continuations}
+use Rattle.model.specs.FrameErrors.{is_between, is_long}
+use Rattle.model.specs.Limits.{longest_block, most_continuations}
 use Rattle.header_blocks.specs.declared.join_fault.JoinFault.{JoinFault}
 use Rattle.header_blocks.specs.declared.join_fault.JoinFault.TheVariants.{Outside, Between, TooLong}
 

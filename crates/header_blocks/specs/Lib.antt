@@ -22,3 +22,4 @@ pub mod Joining
 pub mod Faults
 pub mod Following
 pub mod HeldInside
+pub use Rattle.model.specs.Limits

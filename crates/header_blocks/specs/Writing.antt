@@ -2,7 +2,8 @@
 use Rattle.std.specs.Prelude.{◌≡◌, ℕ, ◌≤◌, Bool, List, ◌++◌, unwrap_or, option_to_list}
 use Rattle.std.specs.Option.{ForSome}
 use Rattle.model.specs.Messages.{Field}
-use Rattle.model.specs.Tables.{Table, first_maximum}
+use Rattle.model.specs.Tables.{Table}
+use Rattle.model.specs.Limits.{first_maximum}
 use Rattle.model.specs.Blocks.{IsBlock}
 use Rattle.header_blocks.specs.Chosen.{AreChosen}
 use Rattle.header_blocks.specs.declared.limits.Due.{Due}

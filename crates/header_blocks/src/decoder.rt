@@ -15,12 +15,10 @@ use crate::gather::{Decoded, Gathering};
 use crate::maxima::{is_maximum, take_maxima};
 use crate::strings::take_int;
 use hpack_table::Table;
+use protocol::limits::FIRST_TABLE_SIZE;
 use std::alloc::Global;
 use std::marker::Model;
 use std::snapshot::Snapshot;
-
-/// The first maximum of a table.
-const FIRST_MAXIMUM: u32 = 4096;
 
 /// Decodes the blocks of a direction, in the order in which they come (RFC 7541). A clause sees its table, as the last block
 /// that was decoded leaves it, and the fault that it answers from then on, if any.
@@ -87,7 +85,7 @@ impl Decoder {
         let result = decode_block(alloc, &mut self.table, block, cap);
         if let Err(fault) = &result {
             self.fault = Some(*fault);
-            self.table = Table::new(alloc, FIRST_MAXIMUM);
+            self.table = Table::new(alloc, FIRST_TABLE_SIZE);
         }
         result
     }

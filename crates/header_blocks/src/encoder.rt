@@ -11,11 +11,9 @@ use crate::limits::{Limits, due_maxima, limits_and};
 use crate::policy::{Policy, Rules};
 use crate::representations::write_block;
 use hpack_table::{Field, Table};
+use protocol::limits::FIRST_TABLE_SIZE;
 use std::alloc::{AllocError, Global};
 use std::marker::Model;
-
-/// The first maximum of a table.
-const FIRST_MAXIMUM: u32 = 4096;
 
 /// Encodes the blocks of a direction, in the order in which they are sent (RFC 7541). A clause sees its table, the least and
 /// the last of the limits since the last block, whether fields are inserted, and whether memory was refused.
@@ -50,7 +48,7 @@ impl Encoder {
             alloc,
             policy,
             table: first_table(alloc, policy),
-            maximum: FIRST_MAXIMUM,
+            maximum: FIRST_TABLE_SIZE,
             limits: None,
             refused: false,
         }
@@ -105,7 +103,7 @@ fn first_table(alloc: Global, policy: Policy) -> Table
     ensures maximum { result.maximum ≡ 4096 }
 {
     match policy {
-        Policy::Plain => Table::new(alloc, FIRST_MAXIMUM),
-        Policy::Indexing => Table::with_index(alloc, FIRST_MAXIMUM),
+        Policy::Plain => Table::new(alloc, FIRST_TABLE_SIZE),
+        Policy::Indexing => Table::with_index(alloc, FIRST_TABLE_SIZE),
     }
 }

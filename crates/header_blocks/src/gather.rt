@@ -1,11 +1,14 @@
 //! The fields of a block, gathered as long as they fit.
 
-ghost use Rattle.std.specs.Prelude.{ℕ, List, [], ◌∷◌, ◌++◌, OnOk};
+ghost use Rattle.std.specs.Prelude.{◌≡◌, ℕ, List, [], ◌∷◌, ◌++◌, OnOk};
 ghost use Rattle.model.specs.Messages.{Field as FieldLine};
 ghost use Rattle.header_blocks.specs.Gathering.{Finishes, Holds};
 
 use hpack_table::Field;
 use std::alloc::{AllocError, Global};
+
+/// Room for so many fields is made with the first one.
+const FIRST_ROOM: usize = 16;
 
 /// What a block says.
 #[derive(Drop)]
@@ -21,6 +24,17 @@ pub enum Decoded {
 pub struct Gathering {
     pub fields: Vec<Field>,
     pub room: Option<usize>,
+}
+
+/// Adds a field behind others. An `Err` says that memory was refused.
+fn push(fields: &mut Vec<Field>, field: Field) -> Result<(), AllocError>
+    ensures { OnOk result (fields.new.items ≡ fields.old.items ++ field ∷ []) }
+{
+    if fields.is_empty() {
+        fields.reserve(FIRST_ROOM)?;
+    }
+    fields.push(field)?;
+    Ok(())
 }
 
 impl Gathering {
@@ -43,7 +57,7 @@ impl Gathering {
         };
         self.room = field.room_behind(room);
         if self.room.is_some() {
-            self.fields.push(field)?;
+            push(&mut self.fields, field)?;
         } else {
             self.fields.clear();
         }

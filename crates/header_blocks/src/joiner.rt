@@ -1,22 +1,15 @@
 //! Fragments joined to header blocks.
 
 ghost use Rattle.std.specs.Prelude.{◌≡◌, ◌≤◌, ℕ, length, None, Some, OnOk, OnErr};
-ghost use Rattle.model.specs.FrameErrors.{longest_block};
+ghost use Rattle.model.specs.Limits.{longest_block};
 ghost use Rattle.header_blocks.specs.Joining.{Joining, nothing_begun, fault_at, begins, continues, HasRoom, IsWithin};
 
 use crate::block::Block;
 use crate::join_fault::JoinFault;
+use protocol::frame_types::CONTINUATION;
+use protocol::limits::{LONGEST_BLOCK, MOST_CONTINUATIONS};
 use std::alloc::{AllocError, Global};
 use std::marker::Model;
-
-/// The type of CONTINUATION (RFC 9113, section 6.10).
-const CONTINUATION: u8 = 9;
-
-/// The most octets of a block (this project's profile).
-const MOST_OCTETS: usize = 65536;
-
-/// The most CONTINUATION frames of a block (this project's profile).
-const MOST_CONTINUATIONS: u32 = 64;
 
 /// Joins the fragments of HEADERS and CONTINUATION frames to header blocks (RFC 9113, section 4.3). A clause sees the block
 /// that was begun and isn't whole, and of how many CONTINUATION frames it came. A caller asks for each frame whether it has a
@@ -69,7 +62,7 @@ impl Joiner {
         if !continues || id != begun.id() {
             return Some(JoinFault::Between);
         }
-        let too_long = payload.len() > MOST_OCTETS - begun.fragments().len();
+        let too_long = payload.len() > LONGEST_BLOCK - begun.fragments().len();
         if too_long || self.continuations == MOST_CONTINUATIONS {
             return Some(JoinFault::TooLong);
         }

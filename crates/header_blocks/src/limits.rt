@@ -5,8 +5,7 @@ ghost use Rattle.std.specs.Option.{ForSome};
 ghost use Rattle.header_blocks.specs.Encoding.{limits_with};
 ghost use Rattle.header_blocks.specs.Due.{AreInRange, IsDue};
 
-/// The greatest limit that is counted (this project's profile).
-const GREATEST: u32 = 4096;
+use protocol::limits::LARGEST_TABLE_SIZE;
 
 /// The least and the last of limits, each counted as at most 4,096.
 #[derive(Clone, Copy)]
@@ -28,7 +27,7 @@ pub fn limits_and(before: Option<Limits>, limit: u32) -> Limits
     ensures limits { result ≡ limits_with before limit }
     ensures range { ForSome before AreInRange → AreInRange result }
 {
-    let last = limit.min(GREATEST);
+    let last = limit.min(LARGEST_TABLE_SIZE);
     let least = match before {
         Some(limits) => limits.least.min(last),
         None => last,

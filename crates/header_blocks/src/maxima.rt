@@ -10,9 +10,7 @@ ghost use Rattle.header_blocks.specs.Faults.{IsMaximumFault, IsFaultOf};
 use crate::fault::DecodeFault;
 use crate::strings::take_int;
 use hpack_table::Table;
-
-/// The greatest maximum.
-const GREATEST: u32 = 4096;
+use protocol::limits::LARGEST_TABLE_SIZE;
 
 /// Whether a representation with this first octet is a maximum.
 pub fn is_maximum(octet: u8) -> bool
@@ -31,7 +29,7 @@ fn take_maximum(octets: &[u8]) -> Result<(u32, usize), DecodeFault>
     ensures fault { IfErr result (IsMaximumFault [] octets.now) }
 {
     let (maximum, used) = take_int(5, octets)?;
-    if maximum > GREATEST {
+    if maximum > LARGEST_TABLE_SIZE {
         return Err(DecodeFault::Maximum);
     }
     Ok((maximum, used))

@@ -4,7 +4,8 @@ ghost use Rattle.std.specs.Prelude.{◌≡◌, ◌≤◌, ◌/◌, ◌%◌, ◌^
 ghost use Rattle.std.specs.List.{All};
 ghost use Rattle.std.specs.Option.{ForSome};
 ghost use Rattle.model.specs.Octets.{IsFront};
-ghost use Rattle.model.specs.Tables.{Table as TableOfFields, first_maximum};
+ghost use Rattle.model.specs.Tables.{Table as TableOfFields};
+ghost use Rattle.model.specs.Limits.{first_maximum};
 ghost use Rattle.header_blocks.specs.Encoding.{is_indexing};
 ghost use Rattle.header_blocks.specs.Writing.{CanBegin, AddsBlock};
 ghost use Rattle.header_blocks.specs.Chosen.{HasShortStrings, IsNameIndex};

@@ -4,7 +4,8 @@ use Rattle.std.proofs.Common.{◌≡◌, ℕ, ◌+◌, ◌*◌, ◌≤◌, ◌�
 use Rattle.std.specs.Prelude.{is_none}
 use Rattle.std.specs.List.{list_any}
 use Rattle.std.proofs.lemmas.Bool.{and_parts}
-use Rattle.model.specs.ResponseHeads.{Head, longest_section}
+use Rattle.model.specs.ResponseHeads.{Head}
+use Rattle.model.specs.Limits.{longest_section}
 use Rattle.model.specs.Responses.{Seen, IsComplete}
 use Rattle.model.specs.Setup.Passing.{Whole, Streaming}
 use Rattle.model.specs.Tapes.{Entry}

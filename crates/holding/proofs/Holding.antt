@@ -7,16 +7,14 @@ use Rattle.model.specs.Setup.{Setup, Passing}
 use Rattle.model.specs.Setup.Passing.{Whole, Streaming}
 use Rattle.model.specs.Tapes.{Entry}
 use Rattle.model.specs.Lifetimes.{active}
-use Rattle.model.specs.StreamStates.{most_active}
+use Rattle.model.specs.Limits.{most_active, most_idle, longest_section}
 use Rattle.model.specs.Tables.{Table, total_size}
 use Rattle.model.specs.Courses.{course}
 use Rattle.model.specs.Known.{Known}
 use Rattle.model.specs.Openings.{Opened, exchanges, exchange_on}
-use Rattle.model.specs.Idle.{most_idle}
 use Rattle.model.proofs.DeliveryReadings.{one_connection}
 use Rattle.model.proofs.ExchangeLaws.{open_exchange}
 use Rattle.model.specs.Failures.{AreJudged}
-use Rattle.model.specs.ResponseHeads.{longest_section}
 use Rattle.conduct.specs.Rule.{AreKnown, known_of}
 use Rattle.conduct.specs.Book.{Book}
 use Rattle.conduct.specs.Held.{octets_begun}

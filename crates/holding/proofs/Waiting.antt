@@ -7,7 +7,7 @@ use Rattle.std.proofs.lemmas.Int.{ints}
 use Rattle.std.proofs.lemmas.List.Sums.{sum_by-cons}
 use Rattle.model.specs.Known.{Known}
 use Rattle.model.specs.Setup.{Setup}
-use Rattle.model.specs.Windows.{first_window}
+use Rattle.model.specs.Limits.{first_window}
 use Rattle.conduct.specs.Summary.{Summary, summary_of}
 use Rattle.conduct.specs.Rule.{known_of}
 use Rattle.conduct.specs.Book.{AllMoved, desk_of}

@@ -1,9 +1,8 @@
 -- How many octets the rooms keep, as sums over all octet lists of what they keep, and how many there may be where they rest.
 use Rattle.std.specs.Prelude.{ℕ, ◌+◌, ◌*◌, ◌≤◌, ◌==◌, if◌then◌else◌, List, [], ◌∷◌, length}
 use Rattle.model.specs.Setup.{Setup}
-use Rattle.model.specs.Idle.{most_idle}
+use Rattle.model.specs.Limits.{most_idle, first_window}
 use Rattle.model.specs.Tables.{total_size}
-use Rattle.model.specs.Windows.{first_window}
 use Rattle.conduct.specs.Held.{octets_begun}
 use Rattle.offering.specs.Held as offers
 use Rattle.serving.specs.Held as requests

@@ -5,9 +5,9 @@ use Rattle.std.proofs.Math.Seq.{take-suc-set}
 use Rattle.std.proofs.lemmas.List.{length-take-le, append-nil}
 use Rattle.std.proofs.lemmas.Bool.{cases_lt}
 use Rattle.std.proofs.lemmas.Nat.{pow_pos}
-use Rattle.model.specs.Integers.{AreGroups, groups_value, IsInt, IsShortestInt}
+use Rattle.model.specs.Integers.{AreGroups, groups_value, IsInt}
 use Rattle.hpack_int.specs.Reading.{AreSet}
-use Rattle.hpack_int.specs.Writing.{AreGroupsOf, Writes}
+use Rattle.hpack_int.specs.Writing.{IsShortestInt, AreGroupsOf, Writes}
 
 -- what the loop of the groups keeps
 pub record Dividing (value rest count : ℕ) (groups : List ℕ) : Type 0 where

@@ -1,6 +1,11 @@
 -- What `write` adds.
 use Rattle.std.specs.Prelude.{◌≡◌, ℕ, ◌-◌, ◌/◌, ◌^◌, ◌≤◌, ◌⊎◌, List, ◌++◌, length, take}
-use Rattle.model.specs.Integers.{AreGroups, groups_value, IsShortestInt}
+use Rattle.model.specs.Integers.{AreGroups, groups_value, IsInt, IsMarkedInt}
+
+-- A text of the value, with this mark in the bits above the prefix, than which none is shorter.
+pub record IsShortestInt (prefix mark : ℕ) (octets : List ℕ) (value : ℕ) : Type 0 where
+  pub marked : IsMarkedInt prefix mark octets value
+  pub shortest : (other : List ℕ) → IsInt prefix other value → length octets ≤ length other
 
 -- The shortest text of the value, with the bits of `high` above the prefix, is added at the end.
 pub record Writes (prefix high value : ℕ) (old new : List ℕ) : Type 0 where

@@ -7,7 +7,7 @@ ghost use Rattle.header_blocks.specs.Chosen.{HasShortStrings};
 use header_blocks::{Decoded, Decoder, Encoder, Field, Policy};
 use std::alloc::Global;
 use std::test::*;
-use tables_coder::{note_limits, read_block, write_block};
+use tables_coder::read_block;
 
 /// The octets `828684410f7777772e6578616d706c652e636f6d` of RFC 7541, appendix C.3.1.
 const REQUEST: [u8; 20] = [
@@ -46,8 +46,9 @@ fn a_status_is_written_behind_due_maxima(rt: HostRuntime) -> Result<(), Fail> {
     let fields = status(rt.alloc())?;
     let mut block = Vec::new(rt.alloc());
     block.push(7)?;
-    note_limits(&mut encoder, &[0, 30]);
-    write_block(&mut encoder, &fields, &mut block)?;
+    encoder.peer_limit(0);
+    encoder.peer_limit(30);
+    encoder.encode(&fields, &mut block)?;
     assert!(rt; is_same(&block, &[7, 0x20, 0x3e, 0x88]));
     Ok(())
 }

@@ -2,7 +2,7 @@
 
 ghost use Rattle.std.specs.Prelude.{◌≤◌, IfOk};
 ghost use Rattle.model.specs.Tables.{total_size};
-ghost use Rattle.model.specs.Causes.{largest_fields};
+ghost use Rattle.model.specs.Limits.{largest_fields};
 
 use crate::lines::{Line, line_of};
 use causes::{Cause, Opening, Route, are_malformed_trailers, judge_head};

@@ -7,7 +7,8 @@ use Rattle.std.specs.Prelude.{ℤ, ◌⊎◌}
 use Rattle.std.specs.List.{list_any, list_all}
 use Rattle.model.specs.Frames.{refused_stream}
 use Rattle.model.specs.Errors.Fault.{Connection, Stream, Discarded}
-use Rattle.model.specs.StreamStates.{Standing, verdict, opened_verdict, idle_verdict, is_above, most_streams, most_active}
+use Rattle.model.specs.StreamStates.{Standing, verdict, opened_verdict, idle_verdict, is_above}
+use Rattle.model.specs.Limits.{most_streams, most_active}
 use Rattle.model.specs.StreamStates.StreamState.{ResetByPeer, ResetByUs}
 use Rattle.model.specs.StreamStates.Verdict.{Passes, Opens, Fails}
 use Rattle.model.specs.Lifetimes.{state_by_ends, may_open}

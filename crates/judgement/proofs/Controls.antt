@@ -12,7 +12,8 @@ use Rattle.model.specs.Errors.Fault.{Connection, Stream}
 use Rattle.model.specs.FrameErrors.{fault_if, is_misplaced}
 use Rattle.model.specs.SettingValues.{settings_in, settings_fault, SettingsFault, code_of_fault, initial_window_after}
 use Rattle.model.specs.WindowsOnTape.{has_settings, increment, is_past}
-use Rattle.model.specs.ErrorTable.{judged, is_idle, is_headers, unless_of_stream, most_resets}
+use Rattle.model.specs.ErrorTable.{judged, is_idle, is_headers, unless_of_stream}
+use Rattle.model.specs.Limits.{most_resets}
 use Rattle.model.specs.ErrorClause.{is_fatal}
 use Rattle.conduct.specs.Summary.{Brief, Summary}
 use Rattle.conduct.specs.Judging.{completed_in, frame_rows_in, values_in, shift_in, shifts_past_in, connection_update_in, idle_in, connection_data_in, fault_on_in, fault_by_standing_in, standing_in, stream_update_in, stream_data_in, is_active_in, window_in, malformed_in, fault_for, resets_row_in, no_farewell_in}

@@ -6,7 +6,8 @@ use Rattle.model.specs.Frames.{Frame, ends_stream, content, protocol_error, flow
 use Rattle.model.specs.Errors.{Fault, first_of, or_else}
 use Rattle.model.specs.Errors.Fault.{Connection, Stream, Discarded}
 use Rattle.model.specs.FrameErrors.{fault_if}
-use Rattle.model.specs.StreamStates.{Standing, verdict, opened_verdict, most_streams, is_above}
+use Rattle.model.specs.StreamStates.{Standing, verdict, opened_verdict, is_above}
+use Rattle.model.specs.Limits.{most_streams}
 use Rattle.model.specs.StreamStates.StreamState.{ResetByPeer, ResetByUs}
 use Rattle.model.specs.StreamStates.Standing.{WholeConnection, Opened, Idle, ServerIdle, Skipped, Beyond}
 use Rattle.model.specs.Lifetimes.{state_by_ends}

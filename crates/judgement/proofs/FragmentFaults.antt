@@ -11,11 +11,11 @@ use Rattle.model.specs.Errors.Fault.{Connection, Stream, Discarded}
 use Rattle.model.specs.FrameErrors.{fault_if}
 use Rattle.model.specs.Malformed.{is_malformed_content}
 use Rattle.model.specs.SettingValues.{settings_in, settings_fault, code_of_fault, initial_window_after}
-use Rattle.model.specs.StreamStates.{most_streams}
+use Rattle.model.specs.Limits.{most_streams, most_resets}
 use Rattle.model.specs.Lifetimes.{opens_by}
 use Rattle.model.proofs.OwedSteps.{neither}
 use Rattle.model.specs.WindowsOnTape.{has_settings, increment, is_past}
-use Rattle.model.specs.ErrorTable.{judged, is_idle, is_headers, is_undecodable, is_malformed, is_bad_block, unless_of_stream, most_resets}
+use Rattle.model.specs.ErrorTable.{judged, is_idle, is_headers, is_undecodable, is_malformed, is_bad_block, unless_of_stream}
 use Rattle.conduct.specs.Summary.{Brief, carried_in, Summary}
 use Rattle.conduct.specs.Judging.{completed_in, frame_rows_in, rows_before_block_in, values_in, shift_in, shifts_past_in, connection_update_in, idle_in, connection_data_in, fault_on_in, fault_by_standing_in, standing_in, stream_update_in, stream_data_in, is_active_in, window_in, malformed_in, fault_for, resets_row_in, no_farewell_in, are_last, is_crowded_in}
 use Rattle.judgement.specs.Fragments.{IsFragment}

@@ -15,7 +15,8 @@ use Rattle.model.specs.Errors.{Fault, first_of, or_else}
 use Rattle.model.specs.Errors.Fault.{Stream, Discarded}
 use Rattle.model.specs.FrameErrors.{fault_if}
 use Rattle.model.specs.WindowsOnTape.{increment}
-use Rattle.model.specs.StreamStates.{Standing, verdict, opened_verdict, most_active}
+use Rattle.model.specs.StreamStates.{Standing, verdict, opened_verdict}
+use Rattle.model.specs.Limits.{most_active}
 use Rattle.model.specs.StreamStates.Verdict.{Opens, Fails}
 use Rattle.model.specs.StreamStates.StreamState.{ResetByPeer, ResetByUs}
 use Rattle.model.specs.Lifetimes.{state_by_ends, may_open, opens_by, ends_by}

@@ -9,7 +9,8 @@ use Rattle.model.specs.Setup.{Setup}
 use Rattle.model.specs.Decoding.{Partial, joined}
 use Rattle.model.specs.Errors.{row_first_frame}
 use Rattle.model.specs.Errors.Fault.{Connection}
-use Rattle.model.specs.FrameErrors.{fault_if, is_between, is_misplaced, is_long, longest_block, most_continuations}
+use Rattle.model.specs.FrameErrors.{fault_if, is_between, is_misplaced, is_long}
+use Rattle.model.specs.Limits.{longest_block, most_continuations}
 use Rattle.model.specs.ErrorClause.{is_fatal}
 use Rattle.conduct.specs.Summary.{Brief}
 use Rattle.conduct.specs.Judging.{completed_in, fault_for, continuations_in, between_in, long_block_in, misplaced_in, payload_in}

@@ -5,12 +5,11 @@ use Rattle.conduct.specs.Summary.{Stream as Kept}
 use Rattle.conduct.specs.Rows.{Row}
 use Rattle.conduct.specs.Judging.{is_over_in}
 use Rattle.streams_kept.specs.Asked.{is_active, IsLive}
-use Rattle.model.specs.Tables.{Table}
+use Rattle.model.specs.Tables.{Table, total_size}
 use Rattle.header_blocks.specs.declared.fault.DecodeFault.{DecodeFault}
 use Rattle.header_blocks.specs.declared.fault.DecodeFault.TheVariants.{Integer, Text, Index, Maximum, Late, Cut, Memory}
 use Rattle.model.specs.Messages.{Field}
-use Rattle.model.specs.Tables.{total_size}
-use Rattle.model.specs.Causes.{largest_fields}
+use Rattle.model.specs.Limits.{largest_fields}
 use Rattle.header_blocks.specs.declared.gather.Decoded.{Decoded}
 use Rattle.header_blocks.specs.declared.gather.Decoded.TheVariants.{Fields as Fits, TooLarge}
 use Rattle.judgement.specs.Blocks.{AreFitting}

@@ -8,7 +8,8 @@ use Rattle.model.specs.Errors.{Fault, first_of, or_else}
 use Rattle.model.specs.Errors.Fault.{Connection, Stream, Discarded}
 use Rattle.model.specs.FrameErrors.{fault_if}
 use Rattle.model.specs.WindowsOnTape.{increment, is_past}
-use Rattle.model.specs.ErrorTable.{fault_of, unless_of_stream, is_idle, most_resets}
+use Rattle.model.specs.ErrorTable.{fault_of, unless_of_stream, is_idle}
+use Rattle.model.specs.Limits.{most_resets}
 use Rattle.model.specs.ErrorClause.{is_fatal}
 use Rattle.conduct.specs.Summary.{Brief, Summary}
 use Rattle.conduct.specs.Judging.{frame_rows_in, is_active_in, is_over_in, standing_in, window_in, fault_by_standing_in, stream_update_in, stream_data_in, malformed_in, fault_for, resets_row_in, no_farewell_in}

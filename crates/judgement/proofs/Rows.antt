@@ -5,11 +5,10 @@ use Rattle.std.proofs.Common.{inl, inr}
 use Rattle.std.specs.List.{AllByRecursion}
 use Rattle.std.proofs.lemmas.List.Elements.{recursion_from_All}
 use Rattle.std.specs.Prelude.{option_map}
-use Rattle.model.specs.Frames.{protocol_error}
+use Rattle.model.specs.Frames.{protocol_error, Frame}
 use Rattle.conduct.specs.After.{begun_after, resets_after}
 use Rattle.streams_kept.proofs.Searches.{IsFound, all_found}
 use Rattle.std.specs.Prelude.{ℤ, is_some}
-use Rattle.model.specs.Frames.{Frame}
 use Rattle.model.specs.Setup.{Setup}
 use Rattle.model.specs.Tapes.Note.{NoBlock}
 use Rattle.model.specs.Decoding.{Partial}
@@ -20,7 +19,7 @@ use Rattle.model.specs.Payloads.{PayloadFault, payload_fault, code_of_payload}
 use Rattle.model.specs.ErrorTable.{is_undecodable, is_malformed, unless_of_stream}
 use Rattle.model.specs.WindowsOnTape.{has_settings, is_any}
 use Rattle.model.specs.Lifetimes.{opens_by}
-use Rattle.model.specs.StreamStates.{most_streams}
+use Rattle.model.specs.Limits.{most_streams}
 use Rattle.model.proofs.OwedSteps.{neither}
 use Rattle.model.specs.ErrorClause.{is_fatal}
 use Rattle.conduct.specs.Summary.{Brief, carried_in, Summary}

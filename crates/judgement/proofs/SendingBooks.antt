@@ -13,7 +13,7 @@ use Rattle.model.specs.Tapes.Note.{Fields}
 use Rattle.model.specs.Tapes.Entry.{Sent}
 use Rattle.model.specs.Decoding.{Partial, joined}
 use Rattle.model.specs.Streams.{block_items, frame_items}
-use Rattle.model.specs.StreamStates.{most_streams}
+use Rattle.model.specs.Limits.{most_streams}
 use Rattle.model.specs.Lifetimes.{ends_by}
 use Rattle.model.specs.WindowsOnTape.{increment, data_length, is_any}
 use Rattle.model.specs.Courses.{is_final}

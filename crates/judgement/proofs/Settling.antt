@@ -17,13 +17,13 @@ use Rattle.model.specs.FrameErrors.{fault_if}
 use Rattle.model.specs.Malformed.{Carried, are_trailers, has_length, is_well_formed}
 use Rattle.model.specs.Http2.{declared_length}
 use Rattle.model.specs.ErrorTable.{fault_of, is_bad_block}
-use Rattle.model.specs.Causes.{Cause, are_large, largest_fields, cause_if, cause_of_head}
+use Rattle.model.specs.Causes.{Cause, are_large, cause_if, cause_of_head}
+use Rattle.model.specs.Limits.{largest_fields, most_streams}
 use Rattle.model.specs.Causes.Cause.{LargeFields}
 use Rattle.model.specs.Courses.{cause_of_block, first_of_both}
 use Rattle.conduct.specs.Summary.{Brief, carried_in}
 use Rattle.conduct.specs.Owing.{brief_behind}
 use Rattle.conduct.specs.Rows.{Row, ids_of, find, slot_of}
-use Rattle.model.specs.StreamStates.{most_streams}
 use Rattle.model.specs.Lifetimes.{may_open}
 use Rattle.causes.specs.Views.{cause_of}
 use Rattle.causes.specs.Openings.{is_bad_head, behind_head}

@@ -2,7 +2,8 @@
 use Rattle.std.proofs.Common.{◌≡◌, ℕ, Bool, true, false, not, ◌&&◌, ◌||◌, ◌==◌, ◌%◌, if◌then◌else◌, List, length, Option, Some, None, refl, sym, ◌∙◌, ap, inl, inr}
 use Rattle.std.proofs.lemmas.Bool.{and_parts, cases_Bool}
 use Rattle.model.specs.Errors.{Fault}
-use Rattle.model.specs.StreamStates.{StreamState, Standing, verdict, opened_verdict, opened_or, unopened, state_of, is_above, most_streams}
+use Rattle.model.specs.StreamStates.{StreamState, Standing, verdict, opened_verdict, opened_or, unopened, state_of, is_above}
+use Rattle.model.specs.Limits.{most_streams}
 use Rattle.model.specs.StreamStates.StreamState.{ResetByPeer, ResetByUs}
 use Rattle.model.specs.StreamStates.Standing.{WholeConnection, Opened}
 use Rattle.model.specs.Lifetimes.{state_by_ends}

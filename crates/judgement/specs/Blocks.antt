@@ -9,7 +9,7 @@ use Rattle.model.specs.Tapes.Note.{Fields}
 use Rattle.model.specs.Errors as errors
 use Rattle.model.specs.Errors.{or_else}
 use Rattle.model.specs.FrameErrors.{fault_if}
-use Rattle.model.specs.StreamStates.{most_streams}
+use Rattle.model.specs.Limits.{most_streams, largest_fields}
 use Rattle.model.specs.Lifetimes.{may_open}
 use Rattle.model.specs.ErrorTable.{fault_of, is_bad_block}
 use Rattle.model.specs.Courses.{cause_of_block, first_of_both}
@@ -18,7 +18,6 @@ use Rattle.conduct.specs.Owing.{brief_behind}
 use Rattle.conduct.specs.Rows.{Row, Slot, ids_of, find, slot_of}
 use Rattle.conduct.specs.Rows.Slot.{Over}
 use Rattle.model.specs.Tables.{total_size}
-use Rattle.model.specs.Causes.{largest_fields}
 use Rattle.header_blocks.specs.declared.gather.Decoded.{Decoded}
 use Rattle.header_blocks.specs.declared.gather.Decoded.TheVariants.{Fields as Fits, TooLarge}
 use Rattle.causes.specs.Views.{cause_of}

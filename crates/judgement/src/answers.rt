@@ -53,12 +53,3 @@ pub enum BlockJudged {
     /// Its block was read, and nothing comes of it: nothing more of the request is looked at.
     Ignored,
 }
-
-/// What comes of a frame, by whether it has a fragment of a header block: HEADERS and CONTINUATION have one.
-#[derive(Drop)]
-pub enum FrameJudged<'a> {
-    /// It has none.
-    Plain(Judged<'a>),
-    /// It has one.
-    OfBlock(BlockJudged),
-}

@@ -7,7 +7,7 @@ ghost use Rattle.model.specs.Errors.Fault.{Stream as StreamFault};
 ghost use Rattle.model.specs.Http2.{passed_trailers};
 ghost use Rattle.model.specs.Malformed.{are_trailers};
 ghost use Rattle.model.specs.Tables.{total_size};
-ghost use Rattle.model.specs.Causes.{largest_fields};
+ghost use Rattle.model.specs.Limits.{largest_fields};
 ghost use Rattle.model.specs.ErrorTable.{fault_of as fault_by};
 ghost use Rattle.conduct.specs.Rows.{find, slot_of};
 ghost use Rattle.conduct.specs.Rows.Slot.{Over};
@@ -24,10 +24,12 @@ ghost use Rattle.causes.specs.Openings.{GoesOn};
 ghost use Rattle.judgement.specs.Blocks.{IsOpenOrIdle, AreFitting, IsFor, placed, kept_so, fault_on, fault_with, Settles, SettlesBy};
 
 use crate::answers::{BlockJudged, Fault};
-use crate::codes::{ENHANCE_YOUR_CALM, PROTOCOL_ERROR, fault_of};
+use crate::codes::fault_of;
 use crate::terms::Terms;
 use causes::{Cause, Opening, are_malformed_trailers, judge_head};
 use header_blocks::{Decoded, Field};
+use protocol::error_codes::{ENHANCE_YOUR_CALM, PROTOCOL_ERROR};
+use protocol::limits::MOST_STREAMS;
 use request_rules::{RequestHead, Rule, check_trailers};
 use std::alloc::{AllocError, Global};
 use stream_state::Kind;
@@ -301,7 +303,7 @@ fn judge_block(
 }
 
 /// All but one of the streams that a connection may have (RFC 9113, section 5.1.1).
-const ALL_BUT_ONE: u32 = 9999;
+const ALL_BUT_ONE: u32 = MOST_STREAMS - 1;
 
 /// Whether a block that is no error by the state of its stream opens the last that a connection may have.
 fn is_last(streams: &Streams, id: u32) -> bool

@@ -8,8 +8,8 @@ ghost use Rattle.model.specs.FrameErrors.{fault_if};
 ghost use Rattle.streams_kept.specs.Courses.{is_malformed_with};
 ghost use Rattle.streams_kept.specs.Views.{brief_of};
 
-use crate::codes::{FLOW_CONTROL_ERROR, PROTOCOL_ERROR, STREAM_CLOSED};
 use flow_control::Window;
+use protocol::error_codes::{FLOW_CONTROL_ERROR, PROTOCOL_ERROR, STREAM_CLOSED};
 use streams_kept::{Course, Live};
 
 /// The code of the error of an active stream that DATA is, if it is one (RFC 9113, sections 5.1, 6.9.1 and 8.1.1): with a payload for which the

@@ -13,20 +13,11 @@ ghost use Rattle.judgement.specs.Joined.{code_of_join};
 use crate::answers::Fault;
 use frames::FrameFault;
 use header_blocks::JoinFault;
+use protocol::error_codes::{
+    ENHANCE_YOUR_CALM, FLOW_CONTROL_ERROR, FRAME_SIZE_ERROR, PROTOCOL_ERROR,
+};
 use settings::SettingFault;
 use stream_state::Verdict;
-
-pub const PROTOCOL_ERROR: u32 = 1;
-
-pub const FLOW_CONTROL_ERROR: u32 = 3;
-
-pub const STREAM_CLOSED: u32 = 5;
-
-pub const FRAME_SIZE_ERROR: u32 = 6;
-
-pub const COMPRESSION_ERROR: u32 = 9;
-
-pub const ENHANCE_YOUR_CALM: u32 = 11;
 
 /// The code of a frame that may not come next (RFC 9113, section 4.3).
 pub fn join_code(fault: JoinFault) -> u32

@@ -33,30 +33,20 @@ ghost use Rattle.judgement.specs.Judgement.{IsPlain, IsJudged, fault_told, is_of
 
 use crate::answers::{Fault, Judged};
 use crate::bodies::{body_code, is_past_room, is_replied_now};
-use crate::codes::{
-    ENHANCE_YOUR_CALM, FLOW_CONTROL_ERROR, PROTOCOL_ERROR, fault_of, join_code, payload_code,
-    setting_code,
-};
+use crate::codes::{fault_of, join_code, payload_code, setting_code};
 use flow_control::Window;
 use frames::{Frame, View, ends_stream, has_settings, is_ack, is_misplaced, parse};
 use header_blocks::{Decoder, Joiner};
+use protocol::error_codes::{ENHANCE_YOUR_CALM, FLOW_CONTROL_ERROR, PROTOCOL_ERROR};
+use protocol::limits::{FIRST_TABLE_SIZE, FIRST_WINDOW, GREATEST_WINDOW, MOST_RESETS};
 use settings::Settings;
 use std::alloc::{AllocError, Global};
 use std::marker::Model;
 use stream_state::{Kind, Verdict};
 use streams_kept::{Course, Live, Streams};
 
-/// The first size of windows (RFC 9113, section 6.9.2).
-const FIRST_WINDOW: u32 = 65535;
-
-/// The first maximum of a header table, in octets (RFC 9113, section 6.5.2).
-pub(crate) const FIRST_TABLE: u32 = 4096;
-
-/// The most active streams that a client may reset (this project's profile).
-const MOST_RESETS: u32 = 1000;
-
 /// The greatest size that a window may have (RFC 9113, section 6.9.1).
-const GREATEST: i64 = 2147483647;
+const GREATEST: i64 = GREATEST_WINDOW as i64;
 
 /// What is kept of a connection for its client's frames. A clause sees conduct's book, but for what these frames neither look at nor change.
 #[derive(Drop)]
@@ -100,7 +90,7 @@ impl Connection {
             streams: Streams::new(alloc),
             resets: 0,
             last: 0,
-            decoder: Decoder::new(alloc, FIRST_TABLE),
+            decoder: Decoder::new(alloc, FIRST_TABLE_SIZE),
             alloc,
         }
     }

@@ -2,7 +2,7 @@
 
 ghost use Rattle.std.specs.Prelude.{◌≡◌, ◌≤◌, ◌==◌, false, length, None, Some, OnOk, OnErr, IfOk, IfSome, IfNone};
 ghost use Rattle.model.specs.Decoding.{Partial};
-ghost use Rattle.model.specs.Causes.{largest_fields};
+ghost use Rattle.model.specs.Limits.{largest_fields};
 ghost use Rattle.tables.specs.Answers.{IsReadAs};
 ghost use Rattle.judgement.specs.Blocks.{IsFor};
 ghost use Rattle.judgement.specs.Fragments.{IsOfBlock, Completes, IsUndecodable, IsFragmentJudged, is_memory};
@@ -18,17 +18,14 @@ ghost use Rattle.judgement.specs.Judgement.{behind};
 
 use crate::answers::{BlockJudged, Fault};
 use crate::blocks::settle;
-use crate::codes::COMPRESSION_ERROR;
-use crate::connection::{Connection, FIRST_TABLE};
+use crate::connection::Connection;
 use crate::terms::Terms;
 use frames::{Frame, View, ends_headers, ends_stream};
 use header_blocks::{DecodeFault, Decoded, Decoder};
+use protocol::error_codes::COMPRESSION_ERROR;
+use protocol::limits::{FIRST_TABLE_SIZE, LARGEST_FIELDS};
 use std::alloc::AllocError;
 use tables_coder::read_block;
-
-/// The most octets of a field list, each field counted with 32 more (RFC 7541, section 4.1): the SETTINGS_MAX_HEADER_LIST_SIZE that the gateway
-/// announces (RFC 9113, section 6.5.2).
-const LARGEST_FIELDS: usize = 16384;
 
 impl Connection {
     /// Keeps the fragment of a HEADERS whose block goes on. An `Err` says that memory was refused.
@@ -79,7 +76,7 @@ impl Connection {
         match read_block(&mut self.decoder, self.alloc, octets, LARGEST_FIELDS) {
             Ok(decoded) => Ok(Some(decoded)),
             Err(fault) => {
-                self.decoder = Decoder::new(self.alloc, FIRST_TABLE);
+                self.decoder = Decoder::new(self.alloc, FIRST_TABLE_SIZE);
                 if is_of_memory(fault) {
                     return Err(AllocError);
                 }

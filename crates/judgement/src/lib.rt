@@ -2,7 +2,6 @@
 #![tactic(auto)]
 
 mod answers;
-mod any;
 mod blocks;
 mod bodies;
 mod codes;
@@ -12,7 +11,7 @@ mod sending;
 mod sending_laws;
 mod terms;
 
-pub use crate::answers::{BlockJudged, Fault, FrameJudged, Judged};
+pub use crate::answers::{BlockJudged, Fault, Judged};
 pub use crate::connection::Connection;
 pub use crate::sending_laws::{
     acts_lead, desks_follow, events_lead, increments_are_told, sent_frames_lead,

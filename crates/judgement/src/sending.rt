@@ -2,7 +2,8 @@
 //! Whoever sends a frame notes it here; `sent_frames_lead` says that this is what conduct's book is behind it.
 
 ghost use Rattle.std.specs.Prelude.{◌≡◌, ◌≤◌, true, pos, ◌+ℤ◌, ◌-ℤ◌, ◌≤ℤ◌};
-ghost use Rattle.model.specs.Windows.{greatest_window, IsSize};
+ghost use Rattle.model.specs.Windows.{IsSize};
+ghost use Rattle.model.specs.Limits.{greatest_window};
 ghost use Rattle.conduct.specs.Judging.{window_in};
 ghost use Rattle.conduct.specs.Owing.{must_end_in};
 ghost use Rattle.conduct.specs.Rows.{find};
@@ -14,10 +15,8 @@ ghost use Rattle.judgement.specs.Inbound.{Outside, told_of};
 ghost use Rattle.judgement.specs.Sending.{with_kept, AreWithin};
 
 use crate::connection::Connection;
+use protocol::limits::MOST_STREAMS;
 use streams_kept::{Live, Streams};
-
-/// How many streams are opened on a connection (this project's profile).
-const MOST_STREAMS: u32 = 10000;
 
 impl Connection {
     /// Notes that the last frame of a header block went out on an active stream (RFC 9113, section 8.1): whether it is a response's final head,

@@ -13,7 +13,8 @@ use Rattle.httparse.specs.Grammar.{is_token_byte, is_value_byte, IsField, IsResp
 use Rattle.model.specs.Octets.{Joined}
 use Rattle.model.specs.ResponseHeads.{Head, Framing, Interim, Final}
 use Rattle.model.specs.ResponseHeads.Framing.{Chunks, Sized}
-use Rattle.model.specs.Responses.{Response, H1Response, IsBadHead, IsPlainlyBad}
+use Rattle.model.specs.Responses.{Response, H1Response}
+use Rattle.model.specs.Noticing.{IsBadHead, IsPlainlyBad}
 use Rattle.model.specs.Idle.{LeavesOpen}
 use Rattle.model.proofs.PastLaws.{no_shorter}
 use Rattle.model.proofs.ResponseHeadReadings.{one_spelled, none_at_final, one_final}

@@ -1,14 +1,14 @@
 -- No request's text begins another's, so what was sent on a connection is one list of requests.
 use Rattle.std.proofs.Common.{◌≡◌, ℕ, true, List, [], ◌∷◌, ◌++◌, refl, sym, ap, ◌∙◌, subst, append_assoc, inl, inr}
 use Rattle.std.specs.Prelude.{codes, ◌&&◌}
-use Rattle.std.proofs.lemmas.Bool.{false≢true, and_parts, or_cases}
+use Rattle.std.proofs.lemmas.Bool.{and_parts, or_cases}
 use Rattle.std.proofs.lemmas.Slice.Eq.{bytes_eq-Decides}
 use Rattle.std.specs.List.{list_all}
 use Rattle.std.proofs.lemmas.List.{append_cancel_right, append-nil}
-use Rattle.model.specs.Octets.{some_of, begins_with, is_token_octet, is_visible, Joined}
+use Rattle.model.specs.Octets.{begins_with, is_token_octet, is_visible, Joined}
 use Rattle.model.specs.Messages.{Field, Request}
 use Rattle.model.specs.Http1.{crlf, Line, values_of, without, framing_names, Framed, Head, is_target, H1Head, H1Request, AreRequests, H1Requests, BeginsNoRequest}
-use Rattle.model.proofs.Http1Runs.{same_rest, run_of_some, not_in_run, one_run, IsPrefixFree, BeginsNone, one_joined}
+use Rattle.model.proofs.Http1Runs.{same_rest, run_of_some, one_run, IsPrefixFree, one_joined}
 use Rattle.model.proofs.Http1Lines.{one_line, end_begins_none}
 use Rattle.model.proofs.Http1Bodies.{one_framed, cons-append, nil-append}
 

@@ -8,7 +8,7 @@ use Rattle.model.specs.Logs.{Act}
 use Rattle.model.specs.Tapes.{Noted, Entry, sent}
 use Rattle.model.specs.Tapes.Entry.{Came, Breached, Happened, Sent, Did}
 use Rattle.model.specs.Decoding.{begun, joined, completed}
-use Rattle.model.specs.StreamStates.{most_streams}
+use Rattle.model.specs.Limits.{most_streams}
 use Rattle.model.specs.Errors.{Fault}
 use Rattle.model.specs.Errors.Fault.{Connection}
 use Rattle.model.specs.Known.{Known}

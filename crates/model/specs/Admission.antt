@@ -1,5 +1,6 @@
 -- Which event may come next: what is open, and what was put out and isn't taken yet.
 use Rattle.std.specs.Prelude.{ℕ, ◌+◌, ◌-◌, Bool, true, false, not, ◌&&◌, ◌==◌, nat_le, nat_lt, if◌then◌else◌, List, [], ◌∷◌, length}
+use Rattle.model.specs.Limits.{most_untaken}
 use Rattle.model.specs.Frames.{spell}
 use Rattle.model.specs.Logs.{Event}
 use Rattle.model.specs.Logs.Event.{Client, ClientEnd, ClientTook, Up, UpEnd, UpFailed, UpTook}
@@ -13,14 +14,6 @@ untaken [] = 0
 untaken (Sent noted ∷ t) = untaken t + length (spell noted.frame)
 untaken (Happened (ClientTook count) ∷ t) = untaken t - count
 untaken (_ ∷ t) = untaken t
-
--- from this many octets on that the client hasn't taken, no part of a response is begun (this project's profile)
-abbrev pub high_water : ℕ
-high_water = 65536
-
--- while more octets than these aren't taken, parts of responses alone go out (this project's profile)
-abbrev pub most_untaken : ℕ
-most_untaken = 1048576
 
 -- more octets for the client than that aren't taken
 abbrev pub is_crowded : List Entry → Bool

@@ -3,7 +3,8 @@ use Rattle.std.specs.Prelude.{◌≡◌, ℕ, ◌≤◌, ◌⊎◌, List, [], �
 use Rattle.model.specs.Messages.{Field}
 use Rattle.model.specs.Integers.{IsMarkedInt}
 use Rattle.model.specs.Huffman.{Huff}
-use Rattle.model.specs.Tables.{Table, first_maximum, added, resized, look_up}
+use Rattle.model.specs.Tables.{Table, added, resized, look_up}
+use Rattle.model.specs.Limits.{first_maximum}
 
 -- The string's octets themselves behind their number (section 5.2).
 pub record IsRawString (octets string : List ℕ) : Type 0 where

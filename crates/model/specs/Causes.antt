@@ -1,6 +1,7 @@
 -- Why the gateway answers a request itself, and with what (this project's profile; statuses from RFC 9110, section 15).
 use Rattle.std.specs.Prelude.{ℕ, Bool, true, false, not, ◌&&◌, ◌||◌, ◌==◌, nat_lt, if◌then◌else◌, List, [], ◌∷◌, codes, bytes_eq, Option, Some, None}
 use Rattle.std.specs.List.{list_any}
+use Rattle.model.specs.Limits.{largest_fields}
 use Rattle.model.specs.Octets.{is_empty, lower}
 use Rattle.model.specs.Messages.{Field}
 use Rattle.model.specs.Frames.{enhance_your_calm, internal_error}
@@ -47,11 +48,6 @@ reset_code LargeFields = Some enhance_your_calm
 reset_code LargeBody = Some enhance_your_calm
 reset_code BadAnswer = Some internal_error
 reset_code _ = None
-
--- the most octets of a field list, each field counted with the 32 that RFC 7541, section 4.1, adds: the
--- SETTINGS_MAX_HEADER_LIST_SIZE that the gateway announces (RFC 9113, section 6.5.2)
-abbrev pub largest_fields : ℕ
-largest_fields = 16384
 
 abbrev pub are_large : List Field → Bool
 are_large fields = nat_lt largest_fields (total_size fields)

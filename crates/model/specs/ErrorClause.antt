@@ -9,7 +9,8 @@ use Rattle.model.specs.Payloads.{number_field}
 use Rattle.model.specs.Logs.Event.{ClientEnd}
 use Rattle.model.specs.Tapes.{Noted, Entry, sent, is_closed}
 use Rattle.model.specs.Tapes.Entry.{Came, Breached, Happened, Sent, Did}
-use Rattle.model.specs.Admission.{untaken, high_water, is_crowded}
+use Rattle.model.specs.Admission.{untaken, is_crowded}
+use Rattle.model.specs.Limits.{high_water}
 use Rattle.model.specs.Decoding.{completed}
 use Rattle.model.specs.Errors.{Fault}
 use Rattle.model.specs.Errors.Fault.{Connection, Stream}
@@ -75,7 +76,15 @@ reset_behind t (Sent noted) =
     else []
 reset_behind t _ = []
 
--- what an entry calls for, the oldest first
+-- What an entry calls for, the oldest first. Some rows of `ErrorExamples`, where all are worked by
+-- computation alone. On the tape `begun` no stream is opened; on `got` a whole GET stands on stream 1.
+--   begun, a PING with 1 to 8         ping_ack (1 to 8)
+--   begun, SETTINGS                   settings_ack
+--   begun, WINDOW_UPDATE by 0 on 0    goaway 0 protocol_error
+--   got, DATA on   stream 1           rst_stream 1 stream_closed
+--   got, DATA on   stream 3           goaway 1 protocol_error
+--   begun, a head with the name `X`   rst_stream 1 protocol_error
+--   begun, a head with the name `x`   nothing
 abbrev pub owed_by : Known → List Entry → Entry → List Frame
 owed_by known t e =
     let found = fault known t e in owed_first t e found ++ (acks e found ++ (resets known (about t e) t e ++ reset_behind t e))

@@ -2,6 +2,7 @@
 -- row of its own, and the first row that applies decides. DATA, RST_STREAM and WINDOW_UPDATE are judged when they came, and
 -- HEADERS when the header block that they begin is whole. Another case is another row.
 use Rattle.std.specs.Prelude.{ℕ, Bool, true, false, not, ◌&&◌, ◌||◌, ◌==◌, nat_le, if◌then◌else◌, List, [], ◌∷◌, ◌++◌, length, Option, Some, None, option_map, ℤ, pos, ◌+ℤ◌, int_lt}
+use Rattle.model.specs.Limits.{most_resets}
 use Rattle.model.specs.Frames.{Frame, data_kind, headers_kind, rst_stream_kind, window_update_kind, ends_stream, content, protocol_error, flow_control_error, compression_error, enhance_your_calm}
 use Rattle.model.specs.Tapes.{Note, Noted, Entry, came}
 use Rattle.model.specs.Tapes.Note.{Fields, Undecodable}
@@ -127,10 +128,6 @@ row_idle t (Came noted) =
     then fault_by_standing t noted
     else None
 row_idle t _ = None
-
--- the most streams that a client may reset while they are active (this project's profile)
-abbrev pub most_resets : ℕ
-most_resets = 1000
 
 -- one reset more of an active stream (section 6.4); resets of other streams aren't counted
 abbrev pub row_resets : List Entry → Entry → Option Fault

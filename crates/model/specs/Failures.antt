@@ -1,10 +1,11 @@
 -- At which events an upstream's answer fails (RFC 9110, section 15.6.3): where it may be given up, and where it must be.
-use Rattle.std.specs.Prelude.{◌≡◌, ℕ, Bool, true, false, ◌⊎◌, List, [], ◌∷◌}
+use Rattle.std.specs.Prelude.{ℕ, Bool, true, false, ◌⊎◌, List, [], ◌∷◌}
 use Rattle.model.specs.Logs.{Event}
 use Rattle.model.specs.Logs.Event.{Up, UpEnd, UpFailed}
 use Rattle.model.specs.Tapes.{Entry}
 use Rattle.model.specs.Tapes.Entry.{Happened}
-use Rattle.model.specs.Responses.{IsComplete, IsSpoilt, IsPlainlyBad}
+use Rattle.model.specs.Responses.{IsComplete, IsSpoilt}
+use Rattle.model.specs.Noticing.{IsPlainlyBad}
 use Rattle.model.specs.Openings.{exchange_on}
 use Rattle.model.specs.Available.{heard_by}
 use Rattle.model.specs.Known.{Known, fails_behind}

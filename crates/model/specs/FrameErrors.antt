@@ -1,6 +1,7 @@
 -- The rows of the error table that look at a frame alone, and at the header block that was begun before it (RFC 9113, sections
 -- 3.4, 4 and 6).
 use Rattle.std.specs.Prelude.{ℕ, suc, ◌%◌, Bool, false, not, ◌&&◌, ◌||◌, ◌==◌, nat_lt, if◌then◌else◌, List, [], ◌∷◌, length, Option, Some, None, is_none, option_map}
+use Rattle.model.specs.Limits.{longest_block, most_continuations}
 use Rattle.model.specs.Frames.{Frame, data_kind, headers_kind, priority_kind, rst_stream_kind, settings_kind, push_promise_kind, ping_kind, goaway_kind, continuation_kind, protocol_error, enhance_your_calm}
 use Rattle.model.specs.Tapes.{Noted, Entry, came}
 use Rattle.model.specs.Tapes.Entry.{Came}
@@ -21,13 +22,6 @@ is_between (Some block) frame = not (frame.kind == continuation_kind && frame.id
 abbrev pub row_between : List Entry → Entry → Option Fault
 row_between t (Came noted) = fault_if (is_between (begun (came t)) noted.frame) (Connection protocol_error)
 row_between t _ = None
-
--- the most octets of a header block, and its most CONTINUATION frames (this project's profile)
-abbrev pub longest_block : ℕ
-longest_block = 65536
-
-abbrev pub most_continuations : ℕ
-most_continuations = 64
 
 abbrev pub is_long : Option Partial → Bool
 is_long None = false

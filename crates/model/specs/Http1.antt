@@ -2,7 +2,7 @@
 use Rattle.std.specs.Prelude.{◌≡◌, ℕ, ◌<◌, Bool, true, false, not, ◌&&◌, ◌||◌, if◌then◌else◌, List, [], ◌∷◌, ◌++◌, length, filter, codes, bytes_eq}
 use Rattle.std.specs.List.{list_all, list_any, concat}
 use Rattle.std.specs.Str.Parse.{digits_value}
-use Rattle.model.specs.Octets.{some_of, begins_with, is_digit, is_hex_digit, is_token_octet, is_visible, is_space, is_value, lower, Joined}
+use Rattle.model.specs.Octets.{IsFront, some_of, begins_with, is_digit, is_hex_digit, is_token_octet, is_visible, is_space, is_value, lower, Joined}
 use Rattle.model.specs.Messages.{Field, Request}
 
 -- the end of a line
@@ -153,3 +153,36 @@ via = record { name = codes "via"; value = codes "2.0 h2gw" }
 -- What an upstream is to read of a request: the same, and that it came through the gateway.
 abbrev pub forward : Request → Request
 forward request = record request { fields = request.fields ++ via ∷ [] }
+
+-- ---- a beginning of a request, whose body is passed on as it comes
+
+-- What stands behind a head is whole chunks, and these octets are in them.
+pub record HasChunks (rest octets : List ℕ) : Type 0 where
+  pub chunks : List (List ℕ)
+  pub are_chunks : Joined Chunk rest chunks
+  pub hold : IsFront octets (concat chunks)
+
+-- By the lines of its head that say how a body is framed, what stands behind the head has these octets of it. That it is no more than
+-- a body begins with is said of each connection's text (`IsSentInPart`).
+abbrev pub HasBody : List (List ℕ) → List (List ℕ) → List ℕ → List ℕ → Type 0
+HasBody [] [] rest octets = (rest ≡ []) × (octets ≡ [])
+HasBody (digits ∷ []) [] rest octets = IsFront octets rest
+HasBody [] (coding ∷ []) rest octets = (lower coding ≡ codes "chunked") × HasChunks rest octets
+HasBody _ _ rest octets = ⊥
+
+-- What is kept back of a text: nothing, or one octet where as many octets of a body came as the head declares (RFC 9112, section 6.2).
+abbrev pub KeptBack : List ℕ → List (List ℕ) → List ℕ → Type 0
+KeptBack [] lengths octets = Unit {0}
+KeptBack (_ ∷ []) (digits ∷ []) octets = length octets ≡ digits_value 10 digits
+KeptBack _ _ _ = ⊥
+
+-- The text, with what is kept back of it, is a whole head and a beginning of a body with these octets.
+pub record HasCome (text octets : List ℕ) : Type 0 where
+  pub extra : List ℕ
+  pub head : Head
+  pub head_text : List ℕ
+  pub rest : List ℕ
+  pub is : text ++ extra ≡ head_text ++ rest
+  pub has_head : H1Head head_text head
+  pub kept_back : KeptBack extra (values_of (codes "content-length") head.fields) octets
+  pub has_body : HasBody (values_of (codes "content-length") head.fields) (values_of (codes "transfer-encoding") head.fields) rest octets

@@ -1,6 +1,7 @@
 -- Upstream connections that are kept for further requests (RFC 9112, section 9.3).
 use Rattle.std.specs.Prelude.{◌≡◌, ℕ, ◌<◌, ◌≤◌, Bool, true, false, ◌==◌, List, [], ◌∷◌, length, map, codes, bytes_eq, Option}
 use Rattle.std.specs.List.{list_any}
+use Rattle.model.specs.Limits.{most_idle}
 use Rattle.model.specs.Octets.{IsStrictFront}
 use Rattle.model.specs.Messages.{Request}
 use Rattle.model.specs.Http1.{H1Request}
@@ -68,10 +69,6 @@ abbrev pub NoneIdle : Known → List Entry → ℕ → Type 0
 NoneIdle known t route = (j : ℕ) → IsIdle known t j → route_of j (exchanges t) ≡ route → ⊥
 
 -- ---- few are idle
-
--- the most connections that are idle (this project's profile)
-abbrev pub most_idle : ℕ
-most_idle = 8
 
 -- these numbers are each another
 abbrev pub AreDistinct : List ℕ → Type 0

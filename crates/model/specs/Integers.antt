@@ -47,8 +47,3 @@ pub record IsMarkedInt (prefix mark : ℕ) (octets : List ℕ) (value : ℕ) : T
 -- No front of the octets is a text of an integer.
 abbrev pub BeginsNoInt : ℕ → List ℕ → Type 0
 BeginsNoInt prefix octets = (front rest : List ℕ) (value : ℕ) → octets ≡ front ++ rest → IsInt prefix front value → ⊥
-
--- A text of the value, with this mark in the bits above the prefix, than which none is shorter.
-pub record IsShortestInt (prefix mark : ℕ) (octets : List ℕ) (value : ℕ) : Type 0 where
-  pub marked : IsMarkedInt prefix mark octets value
-  pub shortest : (other : List ℕ) → IsInt prefix other value → length octets ≤ length other

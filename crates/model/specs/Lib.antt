@@ -1,3 +1,4 @@
+pub mod Limits
 pub mod Octets
 pub mod Messages
 pub mod Integers
@@ -11,6 +12,7 @@ pub mod Http1Text
 pub mod Http2
 pub mod ResponseHeads
 pub mod Responses
+pub mod Noticing
 pub mod Logs
 pub mod Setup
 pub mod Tapes

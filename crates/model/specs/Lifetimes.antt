@@ -6,7 +6,8 @@ use Rattle.model.specs.Tapes.{Note, Noted, Entry, came, sent}
 use Rattle.model.specs.Tapes.Note.{Fields}
 use Rattle.model.specs.Tapes.Entry.{Came, Sent}
 use Rattle.model.specs.Decoding.{Partial, completed}
-use Rattle.model.specs.StreamStates.{StreamState, OpenedStream, Standing, standing, most_streams}
+use Rattle.model.specs.StreamStates.{StreamState, OpenedStream, Standing, standing}
+use Rattle.model.specs.Limits.{most_streams}
 use Rattle.model.specs.StreamStates.StreamState.{Open, HalfClosedRemote, HalfClosedLocal, Closed, ResetByPeer, ResetByUs}
 
 -- ---- opened

@@ -1,5 +1,6 @@
--- When the items of a stream are no request, as a test (RFC 9113, sections 8.1 to 8.3): the rules of `Http2`, which a law ties
--- to them.
+-- When the items of a stream are no request, as a test (RFC 9113, sections 8.1 to 8.3). These are
+-- the rules of `Http2` again. They are proved equal (law `malformed_tests`), so whoever has read
+-- `Http2` can skip this file.
 use Rattle.std.specs.Prelude.{ℕ, ◌+◌, Bool, true, false, not, ◌&&◌, ◌||◌, ◌==◌, nat_le, if◌then◌else◌, List, [], ◌∷◌, length, codes, bytes_eq, Option, Some, None}
 use Rattle.std.specs.List.{list_all, list_any}
 use Rattle.model.specs.Octets.{some_of, is_digit, is_token_octet, lower, is_value}

@@ -1,7 +1,7 @@
 -- The maxima with which a block begins (RFC 7541, section 4.2).
 use Rattle.std.specs.Prelude.{◌≡◌, ℕ, ◌≤◌, ◌==◌, nat_lt, min, if◌then◌else◌, List, [], ◌∷◌, ◌++◌, map, Contains}
 use Rattle.std.specs.List.{All}
-use Rattle.model.specs.Tables.{first_maximum}
+use Rattle.model.specs.Limits.{first_maximum}
 
 -- A limit as it is counted: at most the greatest maximum (this project's profile).
 abbrev pub counted : ℕ → ℕ

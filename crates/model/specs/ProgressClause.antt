@@ -1,11 +1,9 @@
 -- The clause on progress: nothing is due that could go on, and upstream connections are closed where they are done with, and
 -- nowhere else.
-use Rattle.std.specs.Prelude.{◌≡◌, ℕ, ◌<◌, Bool, true, false, ◌&&◌, ◌==◌, if◌then◌else◌, List, [], ◌∷◌, ◌++◌, length, Some, codes, not}
-use Rattle.std.specs.List.{list_any, concat}
-use Rattle.std.specs.Str.Parse.{digits_value}
-use Rattle.model.specs.Octets.{IsFront, lower, Joined}
+use Rattle.std.specs.Prelude.{◌≡◌, ℕ, ◌<◌, Bool, true, false, ◌&&◌, ◌==◌, if◌then◌else◌, List, [], ◌∷◌, Some, not}
+use Rattle.std.specs.List.{list_any}
 use Rattle.model.specs.Messages.{Field, Request, ends_with}
-use Rattle.model.specs.Http1.{H1Head, Head, Chunk, H1Requests, values_of, forward}
+use Rattle.model.specs.Http1.{H1Requests, forward, HasCome}
 use Rattle.model.specs.Http2.{HasHead, H2Request, body_of}
 use Rattle.model.specs.Logs.Act.{Close}
 use Rattle.model.specs.Setup.{IsFirstMatch}
@@ -13,7 +11,8 @@ use Rattle.model.specs.Setup.Passing.{Streaming}
 use Rattle.model.specs.Tapes.{Noted, Entry, came, is_closed}
 use Rattle.model.specs.Tapes.Entry.{Came, Did}
 use Rattle.model.specs.Decoding.{completed}
-use Rattle.model.specs.Admission.{untaken, high_water, is_open}
+use Rattle.model.specs.Admission.{untaken, is_open}
+use Rattle.model.specs.Limits.{high_water}
 use Rattle.model.specs.Openings.{Opened, exchanges, exchange_on, sent_for, GoToOpen}
 use Rattle.model.specs.Known.{Known}
 use Rattle.model.specs.Lifetimes.{ends_by, is_ended_by_client, is_active}
@@ -52,37 +51,6 @@ AllForwarded known t =
     (stream : ℕ) (request : Request) (place : ℕ) → H2Request (items known stream t) request → IsFirstMatch known.setup.routes request.authority request.target place → was_cut stream t ≡ false → IsForwarded t stream request
 
 -- ---- requests that aren't whole, where they are passed on as they come
-
--- What stands behind a head is whole chunks, and these octets are in them.
-pub record HasChunks (rest octets : List ℕ) : Type 0 where
-  pub chunks : List (List ℕ)
-  pub are_chunks : Joined Chunk rest chunks
-  pub hold : IsFront octets (concat chunks)
-
--- By the lines of its head that say how a body is framed, what stands behind the head has these octets of it. That it is no more than
--- a body begins with is said of each connection's text (`IsSentInPart`).
-abbrev pub HasBody : List (List ℕ) → List (List ℕ) → List ℕ → List ℕ → Type 0
-HasBody [] [] rest octets = (rest ≡ []) × (octets ≡ [])
-HasBody (digits ∷ []) [] rest octets = IsFront octets rest
-HasBody [] (coding ∷ []) rest octets = (lower coding ≡ codes "chunked") × HasChunks rest octets
-HasBody _ _ rest octets = ⊥
-
--- What is kept back of a text: nothing, or one octet where as many octets of a body came as the head declares (RFC 9112, section 6.2).
-abbrev pub KeptBack : List ℕ → List (List ℕ) → List ℕ → Type 0
-KeptBack [] lengths octets = Unit {0}
-KeptBack (_ ∷ []) (digits ∷ []) octets = length octets ≡ digits_value 10 digits
-KeptBack _ _ _ = ⊥
-
--- The text, with what is kept back of it, is a whole head and a beginning of a body with these octets.
-pub record HasCome (text octets : List ℕ) : Type 0 where
-  pub extra : List ℕ
-  pub head : Head
-  pub head_text : List ℕ
-  pub rest : List ℕ
-  pub is : text ++ extra ≡ head_text ++ rest
-  pub has_head : H1Head head_text head
-  pub kept_back : KeptBack extra (values_of (codes "content-length") head.fields) octets
-  pub has_body : HasBody (values_of (codes "content-length") head.fields) (values_of (codes "transfer-encoding") head.fields) rest octets
 
 -- A connection was given to the stream and, while it is open, all octets of the body have come to it.
 pub record IsStreamed (known : Known) (t : List Entry) (stream : ℕ) : Type 0 where

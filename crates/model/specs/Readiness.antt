@@ -1,6 +1,6 @@
 -- Which stream may be sent a frame of its response next: what it read so far is less than what is on offer for it, and windows
 -- leave room for the next part (RFC 9113, sections 5.2 and 6.9).
-use Rattle.std.specs.Prelude.{◌≡◌, ℕ, true, false, ◌⊎◌, List, ◌∷◌, ◌++◌, Some, None, is_some, pos, ◌<ℤ◌}
+use Rattle.std.specs.Prelude.{◌≡◌, ℕ, true, ◌⊎◌, List, ◌∷◌, ◌++◌, Some, None, is_some, pos, ◌<ℤ◌}
 use Rattle.model.specs.Tapes.{Entry, sent}
 use Rattle.model.specs.ResponseHeads.{Head}
 use Rattle.model.specs.Deliveries.{Delivery, ReadsAs}

@@ -5,6 +5,7 @@ use Rattle.std.specs.List.{list_all, flat_map}
 use Rattle.std.specs.Str.Parse.{digits_value}
 use Rattle.httparse.specs.Grammar as grammar
 use Rattle.httparse.specs.Grammar.{ReadsResponse, status_code, field_value, trim_ows}
+use Rattle.model.specs.Limits.{longest_section, most_fields}
 use Rattle.model.specs.Octets.{some_of, is_digit, is_value_octet, lower}
 use Rattle.model.specs.Messages.{Field}
 use Rattle.model.specs.Http1.{values_of, without}
@@ -14,14 +15,6 @@ use Rattle.model.specs.Http2.{connection_names, names_not_in_trailers}
 pub record Head : Type 0 where
   pub status : ℕ
   pub fields : List Field
-
--- the longest head, and the longest trailer section, in octets (this project's profile)
-abbrev pub longest_section : ℕ
-longest_section = 16384
-
--- the most fields of a head, and of a trailer section (this project's profile)
-abbrev pub most_fields : ℕ
-most_fields = 100
 
 -- A line's field: the name in lower case, the value without the spaces and tabs at its ends (RFC 9112, section 5).
 abbrev pub meant : grammar.Field → Field

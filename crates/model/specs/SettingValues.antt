@@ -4,7 +4,7 @@ use Rattle.std.specs.Prelude.{ℕ, ◌+◌, ◌*◌, ◌%◌, min, Bool, not, �
 use Rattle.std.specs.List.{filter, reduce, last_or}
 use Rattle.model.specs.Octets.{is_between}
 use Rattle.model.specs.Frames.{protocol_error, flow_control_error, frame_size_error}
-use Rattle.model.specs.Windows.{greatest_window}
+use Rattle.model.specs.Limits.{greatest_window}
 
 -- A setting: which one, and its value (section 6.5.1).
 pub record Setting : Type 0 where

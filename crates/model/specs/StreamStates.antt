@@ -1,6 +1,7 @@
 -- The states of streams (RFC 9113, section 5.1), and what comes of a frame on a stream by the state that it is in.
 use Rattle.std.specs.Prelude.{ℕ, ◌%◌, Bool, true, false, ◌&&◌, ◌||◌, ◌==◌, nat_lt, if◌then◌else◌, List, [], ◌∷◌, map, length, Option, Some, None}
 use Rattle.std.specs.List.{list_all, count_by}
+use Rattle.model.specs.Limits.{most_streams, most_active}
 use Rattle.model.specs.Frames.{data_kind, headers_kind, protocol_error, stream_closed, refused_stream}
 use Rattle.model.specs.Errors.{Fault}
 use Rattle.model.specs.Errors.Fault.{Connection, Stream, Discarded}
@@ -77,14 +78,6 @@ changed change id streams = map (with_change change id) streams
 -- the id is above every opened one
 abbrev pub is_above : ℕ → List OpenedStream → Bool
 is_above id streams = list_all (λ stream. nat_lt stream.id id) streams
-
--- how many streams are opened on a connection (this project's profile); a GOAWAY with the id of the last is sent then
-abbrev pub most_streams : ℕ
-most_streams = 10000
-
--- how many are active at once: the SETTINGS_MAX_CONCURRENT_STREAMS that the gateway announces (section 6.5.2)
-abbrev pub most_active : ℕ
-most_active = 100
 
 -- How an id stands to the streams of a connection.
 pub data Standing : Type 0 where

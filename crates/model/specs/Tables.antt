@@ -1,5 +1,6 @@
 -- Tables of fields (RFC 7541, sections 2.3 and 4, appendix A).
 use Rattle.std.specs.Prelude.{ℕ, zero, suc, ◌+◌, ◌-◌, nat_le, if◌then◌else◌, List, [], ◌∷◌, ◌++◌, length, Option, None, slice_get, codes}
+use Rattle.model.specs.Limits.{first_maximum}
 use Rattle.model.specs.Messages.{Field}
 
 -- The size of a field: its two texts, and 32 (section 4.1).
@@ -20,10 +21,6 @@ keep max (field ∷ fields) = if nat_le (field_size field) max then field ∷ ke
 pub record Table : Type 0 where
   pub fields : List Field
   pub maximum : ℕ
-
--- The greatest maximum, which is the first one of a direction (RFC 9113, section 6.5.2).
-abbrev pub first_maximum : ℕ
-first_maximum = 4096
 
 -- The table of a direction before its first block.
 abbrev pub first_table : Table

@@ -1,14 +1,7 @@
 -- Windows of flow control (RFC 9113, sections 5.2 and 6.9): how many octets of DATA may still be sent, or may still come.
 -- A window is below zero where its first size was lowered under what was already sent (section 6.9.2).
 use Rattle.std.specs.Prelude.{ℕ, ℤ, pos, negsuc, ◌+ℤ◌, ◌-ℤ◌, ◌≤ℤ◌, ◌<ℤ◌}
-
--- the size with which each window begins, while no setting says otherwise (section 6.9.2)
-abbrev pub first_window : ℕ
-first_window = 65535
-
--- the greatest size that a window may have (section 6.9.1)
-abbrev pub greatest_window : ℕ
-greatest_window = 2147483647
+use Rattle.model.specs.Limits.{greatest_window}
 
 -- The size is past the greatest.
 abbrev pub IsPast : ℤ → Type 0

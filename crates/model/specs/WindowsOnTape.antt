@@ -7,8 +7,8 @@ use Rattle.model.specs.Tapes.{Noted, Entry, came, sent}
 use Rattle.model.specs.Tapes.Entry.{Came}
 use Rattle.model.specs.Payloads.{number_field}
 use Rattle.model.specs.SettingValues.{Setting, settings_in, settings_fault, header_table_size, last_value, initial_window_after}
-use Rattle.model.specs.Windows.{first_window, greatest_window, balance, sending_window}
-use Rattle.model.specs.Tables.{first_maximum}
+use Rattle.model.specs.Windows.{balance, sending_window}
+use Rattle.model.specs.Limits.{first_window, greatest_window, first_maximum}
 use Rattle.model.specs.Lifetimes.{active}
 use Rattle.model.specs.FrameErrors.{frame_fault, sound}
 

@@ -11,9 +11,10 @@ use Rattle.model.specs.Tapes.Entry.{Came, Did}
 use Rattle.model.specs.Errors.{Fault, row_start, row_too_long, first_of, or_else}
 use Rattle.model.specs.Errors.Fault.{Connection}
 use Rattle.model.specs.FrameErrors.{fault_if, row_between, row_long_block, row_misplaced, row_payload}
-use Rattle.model.specs.Admission.{untaken, most_untaken, is_crowded}
+use Rattle.model.specs.Admission.{untaken, is_crowded}
+use Rattle.model.specs.Limits.{most_untaken, most_resets}
 use Rattle.model.specs.Lifetimes.{is_active, is_spent, resets_by_client}
-use Rattle.model.specs.ErrorTable.{most_resets, row_settings, row_shift, row_connection_update, row_idle, row_resets, row_connection_data, rows_behind_block, row_malformed}
+use Rattle.model.specs.ErrorTable.{row_settings, row_shift, row_connection_update, row_idle, row_resets, row_connection_data, rows_behind_block, row_malformed}
 use Rattle.model.specs.Known.{Known}
 use Rattle.model.specs.Courses.{about, carried, course, fault}
 use Rattle.model.specs.ErrorClause.{rst_stream, ping_ack, is_fatal, calls_for_end, controls, owed, ErrorsHold}

@@ -8,7 +8,7 @@ use Rattle.model.specs.StreamStates.StreamState.{Open, HalfClosedRemote, HalfClo
 use Rattle.model.specs.StreamStates.Change.{RemoteEnds, LocalEnds, WeReset}
 use Rattle.model.specs.StreamStates.Standing.{Idle, Beyond}
 use Rattle.model.specs.StreamStates.Verdict.{Passes, Opens, Fails}
-use Rattle.model.specs.Payloads.{Parts, payload_fault, parts_of}
+use Rattle.model.specs.Payloads.{payload_fault}
 use Rattle.model.specs.Payloads.PayloadFault.{WrongSize, OverPadded}
 use Rattle.model.specs.Windows.{size_difference, sending_window}
 use Rattle.model.specs.SettingValues.{settings_in, settings_fault, initial_window_after, smallest_value, last_value}
@@ -48,11 +48,8 @@ lowered = refl
 pub below_zero : sending_window 10 0 20000 ≡ negsuc 19989
 below_zero = refl
 
--- HEADERS with padding and a priority: 02 000000000f 82 0000 has the fragment 82
-pub padded_fragment : parts_of (record { kind = 1; flags = 40; id = 1; payload = 2 ∷ 0 ∷ 0 ∷ 0 ∷ 0 ∷ 15 ∷ 130 ∷ 0 ∷ 0 ∷ [] }) ≡ Parts.Headers (130 ∷ [])
-padded_fragment = refl
-
--- the same with a pad length of 4 is too much padding, and with 3 the fragment is empty
+-- HEADERS with padding and a priority: 04 000000000f 82 0000 has too much padding, and with a pad
+-- length of 3 the fragment is empty
 pub over_padded : payload_fault (record { kind = 1; flags = 40; id = 1; payload = 4 ∷ 0 ∷ 0 ∷ 0 ∷ 0 ∷ 15 ∷ 130 ∷ 0 ∷ 0 ∷ [] }) ≡ Some OverPadded
 over_padded = refl
 
@@ -69,10 +66,6 @@ no_pad_length = refl
 -- SETTINGS with ACK has no entries
 pub full_ack : payload_fault (record { kind = 4; flags = 1; id = 0; payload = 0 ∷ 3 ∷ 0 ∷ 0 ∷ 0 ∷ 100 ∷ [] }) ≡ Some WrongSize
 full_ack = refl
-
--- the reserved bit above an increment is ignored: ffff0001 is 2,147,418,113
-pub reserved_increment : parts_of (record { kind = 8; flags = 0; id = 0; payload = 255 ∷ 255 ∷ 0 ∷ 1 ∷ [] }) ≡ Parts.WindowUpdate 2147418113
-reserved_increment = refl
 
 -- Streams in each state: 3 was ended by the client, 5 by the gateway, 7 by both; 9 was reset by the client, and 13 by the
 -- gateway.

@@ -6,14 +6,14 @@ use Rattle.model.specs.Octets.{some_of, is_token_octet, is_value, lower}
 use Rattle.model.specs.Messages.Item.{Block}
 use Rattle.model.specs.Tables.{total_size}
 use Rattle.model.specs.Frames.{goaway, settings_frame, protocol_error, internal_error, stream_closed, no_error}
-use Rattle.model.specs.Http1.{crlf, Line, Head, H1Head}
+use Rattle.model.specs.Http1.{crlf, Line, Head, H1Head, HasCome}
 use Rattle.model.specs.Logs.Event.{UpEnd, ClientEnd}
 use Rattle.model.specs.Logs.Act.{Close, CloseClient}
 use Rattle.model.specs.Tapes.{Entry, sent, sent_up, is_closed}
 use Rattle.model.specs.Tapes.Entry.{Happened, Did}
 use Rattle.model.specs.Courses.{items}
 use Rattle.model.specs.ErrorClause.{rst_stream, controls, owed, must_end, AreRightlySent}
-use Rattle.model.specs.ProgressClause.{HasCome, IsStreamed}
+use Rattle.model.specs.ProgressClause.{IsStreamed}
 use Rattle.model.specs.WindowsOnTape.{room_on_connection}
 use Rattle.model.specs.WindowClause.{kept_in_all}
 use Rattle.model.specs.Setup.Passing.{Streaming}

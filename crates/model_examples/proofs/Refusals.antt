@@ -11,7 +11,7 @@ use Rattle.model.specs.Tapes.Note.{Unread}
 use Rattle.model.specs.Tapes.Entry.{Came, Breached, Happened, Sent, Did}
 use Rattle.model.specs.Known.{Known}
 use Rattle.model.specs.Causes.{Cause}
-use Rattle.model.specs.StreamStates.{most_streams}
+use Rattle.model.specs.Limits.{most_streams}
 use Rattle.model.specs.Lifetimes.{opened, highest}
 use Rattle.model.specs.ErrorClause.{ErrorsHold, FarewellsComeFirst, last_farewell, rst_stream}
 use Rattle.model.specs.ProgressClause.{ProgressHolds, Reason, AllStreamed}

@@ -5,7 +5,7 @@ use Rattle.std.specs.Prelude.{pos, ◌≤ℤ◌, codes, replicate}
 use Rattle.std.proofs.lemmas.List.{append_cancel_left}
 use Rattle.model.specs.Tables.{total_size}
 use Rattle.model.specs.Octets.{Joined}
-use Rattle.model.specs.Http1.{crlf, Chunk, Head, values_of}
+use Rattle.model.specs.Http1.{crlf, Chunk, Head, values_of, HasBody, HasChunks, HasCome, KeptBack}
 use Rattle.model.specs.Logs.{Step}
 use Rattle.model.specs.Logs.Event.{Up, UpFailed}
 use Rattle.model.specs.Logs.Act.{Open, ToUp, Close}
@@ -16,7 +16,7 @@ use Rattle.model.specs.Openings.{Opened, exchanges, sent_for}
 use Rattle.model.specs.Available.{IsIn}
 use Rattle.model.specs.ErrorClause.{ErrorsHold}
 use Rattle.model.specs.ResponseClause.{AreWithin}
-use Rattle.model.specs.ProgressClause.{HasBody, HasChunks, HasCome, KeptBack, AllStreamed}
+use Rattle.model.specs.ProgressClause.{AllStreamed}
 use Rattle.model.specs.WindowClause.{WindowsHold}
 use Rattle.model.specs.Headline.{ClausesHold, HoldsInTurn}
 use Rattle.model.proofs.Http1Bodies.{one_chunk}

@@ -11,9 +11,10 @@ use Rattle.httparse.specs.Grammar.{skip_ows, trim_ows, is_ows, print_field, prin
 use Rattle.model.specs.Messages.{Field}
 use Rattle.model.specs.Http1.{without}
 use Rattle.model.specs.Octets.{Joined}
-use Rattle.model.specs.ResponseHeads.{Head, Framing, Interim, Final, meant, without_framing, with_one, never_has_body, head_of, trailers_passed, IsTaken, longest_section}
+use Rattle.model.specs.ResponseHeads.{Head, Framing, Interim, Final, meant, without_framing, with_one, never_has_body, head_of, trailers_passed, IsTaken}
+use Rattle.model.specs.Limits.{longest_section, most_interims}
 use Rattle.model.specs.ResponseHeads.Framing.{Bodiless, Chunks, Sized, UntilEnd}
-use Rattle.model.specs.Responses.{IsTrailers, HasBody, Seen, most_interims}
+use Rattle.model.specs.Responses.{IsTrailers, HasBody, Seen}
 use Rattle.model.specs.Setup.{Passing}
 use Rattle.model.specs.Setup.Passing.{Whole, Streaming}
 use Rattle.model.specs.Deliveries.{Delivery}

@@ -5,7 +5,8 @@ use Rattle.std.specs.Prelude.{Option, Some, None, is_some, All, sum_by}
 use Rattle.std.proofs.lemmas.List.{append-nil, length-map, length-reverse}
 use Rattle.std.proofs.lemmas.List.Elements.{All-cons, All-nil, All-head, All-tail, All-push}
 use Rattle.std.proofs.lemmas.List.Sums.{sum_by-le}
-use Rattle.model.specs.ResponseHeads.{Head, longest_section}
+use Rattle.model.specs.ResponseHeads.{Head}
+use Rattle.model.specs.Limits.{longest_section}
 use Rattle.model.specs.Messages.{Field}
 use Rattle.model.specs.Responses.{H1Response, IsComplete, Seen}
 use Rattle.model.specs.Logs.{Event}

@@ -6,7 +6,7 @@ use Rattle.model.specs.Tapes.{Noted, Entry}
 use Rattle.model.specs.Known.{Known}
 use Rattle.model.specs.Lifetimes.{is_active}
 use Rattle.model.specs.WindowsOnTape.{stream_window}
-use Rattle.model.specs.Admission.{high_water}
+use Rattle.model.specs.Limits.{high_water}
 use Rattle.model.specs.Turns.{IsNextTurn}
 use Rattle.offering.specs.Outbox.{Part, can_go}
 use Rattle.offering.specs.State.{Kept, State, Windows, find, are_open, is_ready_if, can_turn, ready}

@@ -8,8 +8,8 @@ use Rattle.model.specs.Setup.{Setup, Passing}
 use Rattle.model.specs.Setup.Passing.{Whole, Streaming}
 use Rattle.model.specs.Tapes.{Entry}
 use Rattle.model.specs.Tapes.Entry.{Happened, Sent}
-use Rattle.model.specs.ResponseHeads.{Head, longest_section}
-use Rattle.model.specs.Responses.{most_interims}
+use Rattle.model.specs.ResponseHeads.{Head}
+use Rattle.model.specs.Limits.{longest_section, most_interims}
 use Rattle.model.specs.Known.{Known}
 use Rattle.model.specs.Rooms.{FitsRoom}
 use Rattle.model.specs.Failures.{AreJudged}

@@ -15,7 +15,8 @@ use Rattle.model.specs.Causes.{Cause}
 use Rattle.model.specs.Lifetimes.{is_active}
 use Rattle.model.specs.WindowsOnTape.{stream_window, connection_window}
 use Rattle.model.specs.Courses.{course, items, upstream_of}
-use Rattle.model.specs.Admission.{untaken, high_water}
+use Rattle.model.specs.Admission.{untaken}
+use Rattle.model.specs.Limits.{high_water}
 use Rattle.model.specs.ProgressClause.{NoneReady}
 use Rattle.model.specs.WindowClause.{KeepsWindows}
 use Rattle.model.specs.Turns.{IsNextTurn}

@@ -10,7 +10,7 @@ use Rattle.model.specs.Known.{Known}
 use Rattle.model.specs.Causes.{Cause}
 use Rattle.model.specs.Lifetimes as lives
 use Rattle.model.specs.Lifetimes.{may_open, is_opened, is_active, is_ended_by_client}
-use Rattle.model.specs.Windows.{first_window}
+use Rattle.model.specs.Limits.{first_window}
 use Rattle.model.specs.WindowsOnTape.{stream_window, connection_window, room_on}
 use Rattle.model.specs.Courses.{course, items}
 use Rattle.model.specs.ErrorClause.{calls_for_end}

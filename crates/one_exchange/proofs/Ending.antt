@@ -2,7 +2,7 @@
 use Rattle.std.proofs.Common.{◌≡◌, ℕ, true, false, List, [], ◌∷◌, refl, sym, ap, ◌∙◌, subst, inr, if◌then◌else◌}
 use Rattle.std.specs.List.{list_any}
 use Rattle.model.specs.Messages.{ends_with}
-use Rattle.model.specs.Http1.{H1Requests, forward}
+use Rattle.model.specs.Http1.{H1Requests, forward, HasCome}
 use Rattle.model.specs.Http2.{HasHead, H2Request, body_of}
 use Rattle.model.specs.Logs.Act.{Open, ToUp, Close, CloseClient}
 use Rattle.model.specs.Tapes.{Entry}
@@ -15,7 +15,7 @@ use Rattle.model.specs.Courses.{Course}
 use Rattle.model.specs.Offers.{is_to_head}
 use Rattle.model.specs.Idle.{IsAllHeard}
 use Rattle.model.specs.Readiness.{IsReady}
-use Rattle.model.specs.ProgressClause.{had_closed, is_first_end, was_cut, HasCome, AllForwarded, AllStreamed, NoneReady, Reason, AreClosed, ClosesRightly, ProgressHolds}
+use Rattle.model.specs.ProgressClause.{had_closed, is_first_end, was_cut, AllForwarded, AllStreamed, NoneReady, Reason, AreClosed, ClosesRightly, ProgressHolds}
 use Rattle.model.specs.ProgressClause.Reason.{Over, Complete, Answered, ClientClosed}
 use Rattle.model.proofs.GivenLaws.{open_given}
 use Rattle.model.proofs.AloneLaws.{newest_is}

@@ -2,7 +2,7 @@
 use Rattle.std.specs.Prelude.{◌≡◌, ℕ, ◌<◌, Bool, true, false, if◌then◌else◌, List, [], ◌∷◌, Some}
 use Rattle.std.specs.List.{list_any}
 use Rattle.model.specs.Messages.{Field, Request, ends_with}
-use Rattle.model.specs.Http1.{H1Requests, forward}
+use Rattle.model.specs.Http1.{H1Requests, forward, HasCome}
 use Rattle.model.specs.Http2.{HasHead, H2Request, body_of}
 use Rattle.model.specs.Logs.Act.{Close}
 use Rattle.model.specs.Setup.{IsFirstMatch}
@@ -11,7 +11,8 @@ use Rattle.model.specs.Tapes.{Entry, sent, sent_up, is_closed}
 use Rattle.model.specs.Tapes.Entry.{Came, Did}
 use Rattle.model.specs.Responses.{IsComplete}
 use Rattle.model.specs.Deliveries.{Delivery, ReadsAs}
-use Rattle.model.specs.Admission.{untaken, high_water, is_open}
+use Rattle.model.specs.Admission.{untaken, is_open}
+use Rattle.model.specs.Limits.{high_water}
 use Rattle.model.specs.Openings.{Opened, opens, GoToOpen}
 use Rattle.model.specs.Available.{IsIn, items_on}
 use Rattle.model.specs.Known.{Known}
@@ -19,7 +20,7 @@ use Rattle.model.specs.Lifetimes.{is_active}
 use Rattle.model.specs.Causes.{Cause}
 use Rattle.model.specs.Offers.{is_to_head}
 use Rattle.model.specs.Readiness.{CanGo}
-use Rattle.model.specs.ProgressClause.{had_closed, is_first_end, HasCome}
+use Rattle.model.specs.ProgressClause.{had_closed, is_first_end}
 use Rattle.one_exchange.specs.Connections.{heard, has_ended}
 use Rattle.one_exchange.specs.Courses.{items_once, cause_once}
 use Rattle.one_exchange.specs.Responses.{IsGivenOnce, IsOfferedOnce}

@@ -7,7 +7,7 @@ use Rattle.model.specs.Frames.{Frame, ends_stream, content, data_kind, continuat
 use Rattle.model.specs.Payloads.{number_field}
 use Rattle.model.specs.Decoding.{Partial}
 use Rattle.model.specs.WindowsOnTape.{increment}
-use Rattle.model.specs.Admission.{high_water}
+use Rattle.model.specs.Limits.{high_water}
 use Rattle.model.specs.ErrorClause.{is_plainly_flagged, is_filled}
 use Rattle.conduct.specs.Summary.{Summary}
 use Rattle.conduct.specs.Judging.{is_active_in, is_crowded_in}

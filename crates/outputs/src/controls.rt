@@ -7,14 +7,30 @@ ghost use Rattle.model.specs.Logs.Output.{ToClient};
 ghost use Rattle.model.specs.Tapes.{put};
 ghost use Rattle.outputs.specs.Sent.{window_update};
 
-use crate::kinds::{ACK, GOAWAY, PING, RST_STREAM, SETTINGS, WINDOW_UPDATE};
 use crate::outputs::Outputs;
 use frames::View;
+use protocol::flags::ACK;
+use protocol::frame_types::{GOAWAY, PING, RST_STREAM, SETTINGS, WINDOW_UPDATE};
+use protocol::limits::{LARGEST_FIELDS, MOST_ACTIVE};
+use protocol::setting_ids::{MAX_CONCURRENT_STREAMS, MAX_HEADER_LIST_SIZE};
 use std::alloc::AllocError;
 
 /// What the gateway announces: SETTINGS_MAX_CONCURRENT_STREAMS (3) 100, SETTINGS_MAX_HEADER_LIST_SIZE (6) 16,384
 /// (RFC 9113, section 6.5.2).
-const ANNOUNCED: [u8; 12] = [0, 3, 0, 0, 0, 100, 0, 6, 0, 0, 64, 0];
+const ANNOUNCED: [u8; 12] = [
+    0,
+    MAX_CONCURRENT_STREAMS as u8,
+    0,
+    0,
+    0,
+    MOST_ACTIVE as u8,
+    0,
+    MAX_HEADER_LIST_SIZE as u8,
+    0,
+    0,
+    (LARGEST_FIELDS / 256) as u8,
+    (LARGEST_FIELDS % 256) as u8,
+];
 
 /// The octets of GOAWAY's payload (RFC 9113, section 6.8): the last stream, and the error code.
 fn farewell(last: u32, code: u32) -> [u8; 8]

@@ -3,7 +3,7 @@
 ghost use Rattle.std.specs.Prelude.{◌≡◌, ℕ, ◌+◌, ◌<◌, ◌≤◌, Bool, true, false, not, ◌&&◌, ◌||◌, ◌==◌, if◌then◌else◌, List, [], ◌∷◌, length, None};
 ghost use Rattle.model.specs.Octets.{is_empty};
 ghost use Rattle.model.specs.Frames.{Frame, content, ends_stream};
-ghost use Rattle.model.specs.Admission.{high_water};
+ghost use Rattle.model.specs.Limits.{high_water};
 ghost use Rattle.model.specs.WindowsOnTape.{increment};
 ghost use Rattle.conduct.specs.Summary.{Summary};
 ghost use Rattle.conduct.specs.Judging.{is_active_in, is_crowded_in};

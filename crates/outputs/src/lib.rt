@@ -3,7 +3,6 @@
 
 mod controls;
 mod events;
-mod kinds;
 mod laws;
 mod outputs;
 mod responses;

@@ -9,21 +9,22 @@ ghost use Rattle.frames.specs.Views.{frame_of, joined};
 ghost use Rattle.outputs.specs.Views.{outputs_of};
 
 use crate::events::Output;
-use crate::kinds::{HEADER, LONGEST};
 use frames::View;
 use h1_writer::Text;
+use protocol::lengths::FRAME_HEADER;
+use protocol::limits::LONGEST_PAYLOAD;
 use std::alloc::{AllocError, Global};
 use std::marker::Model;
 
 /// Room for so many octets is made where a frame of the longest payload finds none: more such frames follow it most often.
-const FOLLOWING: usize = 4 * (HEADER + LONGEST);
+const FOLLOWING: usize = 4 * (FRAME_HEADER + LONGEST_PAYLOAD);
 
 /// Makes room for a frame, if its payload of so many octets is the longest. An `Err` says that memory was refused.
 fn make_room(octets: &mut Vec<u8>, payload: usize) -> Result<(), AllocError>
     ensures { octets.new.items ≡ octets.old.items }
 {
-    let has_room = octets.capacity() - octets.len() >= HEADER + LONGEST;
-    if payload < LONGEST || has_room {
+    let has_room = octets.capacity() - octets.len() >= FRAME_HEADER + LONGEST_PAYLOAD;
+    if payload < LONGEST_PAYLOAD || has_room {
         return Ok(());
     }
     octets.reserve(FOLLOWING)

@@ -7,9 +7,11 @@ ghost use Rattle.model.specs.Tapes.{put};
 ghost use Rattle.outputs.specs.Sent.{data_frame, put_frames};
 ghost use Rattle.outputs.specs.Blocks.{frames_of, filled_before, block_frames};
 
-use crate::kinds::{CONTINUATION, DATA, END_HEADERS, END_STREAM, HEADERS, LONGEST};
 use crate::outputs::Outputs;
 use frames::View;
+use protocol::flags::{END_HEADERS, END_STREAM};
+use protocol::frame_types::{CONTINUATION, DATA, HEADERS};
+use protocol::limits::LONGEST_PAYLOAD;
 use std::alloc::AllocError;
 
 /// END_STREAM or nothing.
@@ -31,8 +33,8 @@ fn put_block(out: &mut Outputs, stream: u32, flags: u8, block: &[u8]) -> Result<
         id: stream,
         payload: block,
     };
-    while view.payload.len() > LONGEST {
-        let (payload, rest) = view.payload.split_at(LONGEST);
+    while view.payload.len() > LONGEST_PAYLOAD {
+        let (payload, rest) = view.payload.split_at(LONGEST_PAYLOAD);
         out.send(&View { payload, ..view })?;
         view = View {
             kind: CONTINUATION,

@@ -8,7 +8,7 @@ use Rattle.model.specs.Frames.{Frame, goaway}
 use Rattle.model.specs.FrameErrors.{is_between}
 use Rattle.model.specs.Setup.{Setup}
 use Rattle.model.specs.Tables.{Table}
-use Rattle.model.specs.Admission.{high_water, most_untaken}
+use Rattle.model.specs.Limits.{high_water, most_untaken}
 use Rattle.model.specs.ErrorClause.{is_calming}
 use Rattle.model.specs.Logs.Act.{Close, CloseClient}
 use Rattle.model.specs.Tapes.Entry.{Sent}

@@ -9,7 +9,8 @@ use Rattle.model.specs.Tapes.{Note, Noted}
 use Rattle.model.specs.Tapes.Note.{NoBlock, Fields, Undecodable, Unread}
 use Rattle.model.specs.Tapes.Entry.{Came}
 use Rattle.model.specs.Decoding.{Partial}
-use Rattle.model.specs.StreamStates.{StreamState, Standing, most_active, most_streams, state_of, opened_or, unopened, is_above, verdict}
+use Rattle.model.specs.StreamStates.{StreamState, Standing, state_of, opened_or, unopened, is_above, verdict}
+use Rattle.model.specs.Limits.{most_active, most_streams}
 use Rattle.model.specs.StreamStates.Standing.{WholeConnection, Idle, ServerIdle}
 use Rattle.model.specs.StreamStates.Verdict.{Opens, Fails}
 use Rattle.model.specs.Errors.{Fault, first_of, or_else}

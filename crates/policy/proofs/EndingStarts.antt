@@ -6,14 +6,13 @@ use Rattle.std.proofs.lemmas.Bool.{ltb-true}
 use Rattle.model.specs.FrameErrors.{is_between}
 use Rattle.model.specs.Frames.{Frame, goaway, no_error, protocol_error, frame_size_error, enhance_your_calm}
 use Rattle.model.specs.Setup.{Setup}
-use Rattle.model.specs.Admission.{high_water, most_untaken}
+use Rattle.model.specs.Limits.{high_water, most_untaken, most_streams}
 use Rattle.model.specs.Tables.{Table}
 use Rattle.model.specs.Logs.Event.{ClientEnd}
 use Rattle.model.specs.Logs.Act.{Close, CloseClient}
 use Rattle.model.specs.Tapes.{Breach, Entry}
 use Rattle.model.specs.Tapes.Breach.{WrongPreface, TooLong}
 use Rattle.model.specs.Tapes.Entry.{Breached, Happened, Sent, Did}
-use Rattle.model.specs.StreamStates.{most_streams}
 use Rattle.model.specs.Errors.Fault.{Connection}
 use Rattle.model.specs.Known.{Known}
 use Rattle.model.specs.Lifetimes.{is_active}

@@ -11,14 +11,15 @@ use Rattle.model.specs.Tapes.Note.{NoBlock}
 use Rattle.model.specs.Tapes.Entry.{Came}
 use Rattle.model.specs.Payloads.{number_field}
 use Rattle.model.specs.SettingValues.{SettingsFault, settings_in, settings_fault, code_of_fault, initial_window_after}
-use Rattle.model.specs.StreamStates.{StreamState, Standing, state_of, opened_or, unopened, is_above, most_streams, verdict, opened_verdict}
+use Rattle.model.specs.StreamStates.{StreamState, Standing, state_of, opened_or, unopened, is_above, verdict, opened_verdict}
+use Rattle.model.specs.Limits.{most_streams, most_resets}
 use Rattle.model.specs.StreamStates.StreamState.{Open, HalfClosedRemote, HalfClosedLocal, Closed, ResetByPeer, ResetByUs}
 use Rattle.model.specs.StreamStates.Standing.{WholeConnection, Opened}
 use Rattle.model.specs.Errors.{Fault, first_of, or_else}
 use Rattle.model.specs.Errors.Fault.{Connection, Stream}
 use Rattle.model.specs.FrameErrors.{fault_if}
 use Rattle.model.specs.WindowsOnTape.{has_settings, increment, is_past}
-use Rattle.model.specs.ErrorTable.{judged, grants, grants_nothing, grants_past, is_idle, is_undecodable, unless_of_stream, fault_of, most_resets}
+use Rattle.model.specs.ErrorTable.{judged, grants, grants_nothing, grants_past, is_idle, is_undecodable, unless_of_stream, fault_of}
 use Rattle.model.specs.ErrorClause.{is_fatal}
 use Rattle.conduct.specs.Summary.{Summary}
 use Rattle.conduct.specs.Judging.{state_in, streams_in, standing_in, active_in, window_in, completed_in, frame_rows_in, values_in, shift_in, connection_update_in, idle_in, resets_row_in, connection_data_in, fault_on_in, fault_by_standing_in, malformed_in, rows_behind_block_in, shifts_past_in, is_active_in}

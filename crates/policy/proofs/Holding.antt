@@ -11,7 +11,7 @@ use Rattle.model.specs.Setup.{Setup, Passing}
 use Rattle.model.specs.Setup.Passing.{Whole, Streaming}
 use Rattle.model.specs.Tapes.{Entry, is_closed}
 use Rattle.model.specs.Lifetimes.{active}
-use Rattle.model.specs.StreamStates.{most_active}
+use Rattle.model.specs.Limits.{most_active}
 use Rattle.model.specs.Known.{Known}
 use Rattle.conduct.specs.Rule.{AreKnown}
 use Rattle.conduct.specs.Held.{octets_begun}

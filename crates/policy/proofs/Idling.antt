@@ -2,7 +2,7 @@
 use Rattle.std.proofs.Common.{◌≡◌, ℕ, List, ◌++◌, Some, sym, subst, inl, inr}
 use Rattle.model.specs.Logs.Event.{Up, UpEnd, UpFailed}
 use Rattle.model.specs.Tapes.{Entry}
-use Rattle.model.specs.Responses.{IsPlainlyBad}
+use Rattle.model.specs.Noticing.{IsPlainlyBad}
 use Rattle.model.specs.Openings.{exchange_on}
 use Rattle.model.specs.Available.{heard_by}
 use Rattle.model.specs.Known.{Known}

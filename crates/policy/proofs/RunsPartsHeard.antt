@@ -6,7 +6,8 @@ use Rattle.model.specs.Tables.{total_size}
 use Rattle.model.specs.Octets.{Joined}
 use Rattle.model.specs.ResponseHeads.{Head, Framing, Interim, Final}
 use Rattle.model.specs.ResponseHeads.Framing.{Chunks, Sized}
-use Rattle.model.specs.Responses.{HasBody, IsComplete, IsBadHead, IsPlainlyBad}
+use Rattle.model.specs.Responses.{HasBody, IsComplete}
+use Rattle.model.specs.Noticing.{IsBadHead, IsPlainlyBad}
 use Rattle.model.specs.Deliveries.{Delivery, nothing}
 use Rattle.model.specs.Available.{heard_by, ended_by, IsIn, IsShown}
 use Rattle.model.specs.Courses.{items}

@@ -16,7 +16,7 @@
 ghost use Rattle.std.specs.Prelude.{◌≡◌, ◌<◌, ◌≤◌, ◌^◌, ℕ, length, Bool, true, false, ◌++◌, List, ◌∷◌, reverse, Some, None};
 ghost use Rattle.model.specs.Setup.{Setup};
 ghost use Rattle.model.specs.Setup.Passing.{Streaming};
-ghost use Rattle.model.specs.StreamStates.{most_active};
+ghost use Rattle.model.specs.Limits.{most_active};
 ghost use Rattle.model.specs.Logs.{Event, Act, Step};
 ghost use Rattle.model.specs.Logs.Event.{ClientEnd, Up, UpEnd, UpFailed};
 ghost use Rattle.model.specs.Tables.{Table};
@@ -26,7 +26,7 @@ ghost use Rattle.model.specs.Admission.{is_open};
 ghost use Rattle.model.specs.Openings.{exchange_on};
 ghost use Rattle.model.specs.Available.{heard_by, ended_by};
 ghost use Rattle.model.specs.Idle.{is_asked_for_head, IsAllHeard, IsIdle};
-ghost use Rattle.model.specs.Responses.{IsPlainlyBad};
+ghost use Rattle.model.specs.Noticing.{IsPlainlyBad};
 ghost use Rattle.model.specs.Known.{Known};
 ghost use Rattle.model.specs.Tapes.{Noted, Breach, Entry, is_closed, EndsWithClose};
 ghost use Rattle.model.specs.Tapes.Entry.{Happened};
@@ -54,7 +54,7 @@ ghost use Rattle.policy.specs.Going.{IsOwedNext, GivesBack, Acts};
 ghost use Rattle.policy.specs.Held.{held_on_connection, held_for, held_in_all, most_on_connection, most_for_stream, most_in_all};
 ghost use Rattle.policy.specs.Ending.{IsFatal, IsCrowded, calming_of, ending_of, Ends};
 
-/// Whoever keeps the rule keeps the headline: its five clauses wherever the gateway rests, and before each thing that comes in;
+/// Whoever keeps the rule keeps the headline: its six clauses wherever the gateway rests, and before each thing that comes in;
 /// what is known of failures is right, and nothing stands behind the client's close. So it is for both policies, and however
 /// requests and responses are passed on.
 pub fn headline_holds()

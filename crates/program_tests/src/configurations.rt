@@ -29,15 +29,20 @@ fn taken(rt: &impl Abort, alloc: Global, text: &str) -> Config {
     }
 }
 
-#[test]
-fn defaults(rt: HostRuntime) -> Result<(), Fail> {
-    let config = taken(&rt, rt.alloc(), "");
+/// The configuration has no route, and what stands where nothing else is said.
+fn assert_default(rt: &impl Abort, config: &Config) {
     assert!(rt; config.routes.is_empty());
     assert!(rt; matches!(config.policy, Policy::Plain));
     assert!(rt; matches!(config.passing, Passing::Whole));
     assert_eq!(rt; config.max_body, 1_048_576);
     assert_eq!(rt; config.max_response, 1_048_576);
     assert!(rt; !config.keep);
+}
+
+#[test]
+fn defaults(rt: HostRuntime) -> Result<(), Fail> {
+    assert_default(&rt, &taken(&rt, rt.alloc(), ""));
+    assert_default(&rt, &Config::new(Vec::new(rt.alloc())));
     Ok(())
 }
 

@@ -2,7 +2,8 @@
 use Rattle.std.proofs.Common.{◌≡◌, ℕ, ◌<◌, ◌≤◌, Bool, true, false, List, [], ◌∷◌, ◌++◌, length, map, refl, sym, ap, ◌∙◌, subst, arith, inl, inr, if◌then◌else◌}
 use Rattle.std.specs.Prelude.{Option, Some, None}
 use Rattle.model.specs.ResponseHeads.{Head}
-use Rattle.model.specs.Responses.{Seen, IsComplete, IsSpoilt, IsPlainlyBad}
+use Rattle.model.specs.Responses.{Seen, IsComplete, IsSpoilt}
+use Rattle.model.specs.Noticing.{IsPlainlyBad}
 use Rattle.model.specs.Setup.Passing.{Whole}
 use Rattle.model.specs.Logs.Event.{Up, UpEnd}
 use Rattle.model.specs.Tapes.{Entry}

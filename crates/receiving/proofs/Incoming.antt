@@ -13,7 +13,8 @@ use Rattle.model.specs.Tapes.{Noted, Breach, Entry, came, sent}
 use Rattle.model.specs.Tapes.Entry.{Came, Breached, Happened}
 use Rattle.model.specs.Decoding.{completed}
 use Rattle.model.specs.Lifetimes.{opened, opens_by, is_opened, is_over, is_active}
-use Rattle.model.specs.Windows.{first_window, sending_window}
+use Rattle.model.specs.Windows.{sending_window}
+use Rattle.model.specs.Limits.{first_window}
 use Rattle.model.specs.WindowsOnTape.{is_on, is_any, data_length, data_octets, increments}
 use Rattle.model.proofs.OpenedLaws.{opens_new}
 use Rattle.model.proofs.ActiveLaws.{active_came}

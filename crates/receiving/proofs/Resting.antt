@@ -11,7 +11,8 @@ use Rattle.model.specs.Tapes.{Noted, Entry, came, sent, sent_up}
 use Rattle.model.specs.Tapes.Entry.{Sent}
 use Rattle.model.specs.Known.{Known}
 use Rattle.model.specs.Openings.{connection_of, route_of, exchanges}
-use Rattle.model.specs.Windows.{first_window, sending_window}
+use Rattle.model.specs.Windows.{sending_window}
+use Rattle.model.specs.Limits.{first_window}
 use Rattle.model.specs.Lifetimes.{is_active, is_ended_by_client}
 use Rattle.model.specs.WindowsOnTape.{is_on, is_any, data_octets, increments, room_on, room_on_connection}
 use Rattle.model.specs.WindowClause.{taken, waiting, kept, kept_in_all, GivesBack, GivesNoMore, GoesBack}

@@ -13,7 +13,8 @@ use Rattle.model.specs.Setup.Passing.{Whole, Streaming}
 use Rattle.model.specs.Tapes.{Noted, Breach, Entry, came, sent, sent_up}
 use Rattle.model.specs.Tapes.Entry.{Came, Breached, Happened, Sent, Did}
 use Rattle.model.specs.Openings.{connection_of, route_of, exchanges, given, last_stream, begins_another}
-use Rattle.model.specs.Windows.{first_window, sending_window}
+use Rattle.model.specs.Windows.{sending_window}
+use Rattle.model.specs.Limits.{first_window}
 use Rattle.model.specs.Lifetimes.{active, is_active}
 use Rattle.model.specs.WindowsOnTape.{is_on, increment, data_length, data_octets, increments}
 use Rattle.model.specs.WindowClause.{taken, waiting, kept, HoldsBack}

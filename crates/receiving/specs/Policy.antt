@@ -10,7 +10,7 @@ use Rattle.model.specs.Tapes.{Noted, Entry, came, is_closed}
 use Rattle.model.specs.Admission.{untaken, is_open}
 use Rattle.model.specs.Tapes.Entry.{Came, Sent}
 use Rattle.model.specs.Decoding.{completed}
-use Rattle.model.specs.Windows.{first_window}
+use Rattle.model.specs.Limits.{first_window}
 use Rattle.model.specs.Openings as openings
 use Rattle.model.specs.Openings.{exchanges, last_stream, begins_another}
 use Rattle.model.specs.Lifetimes.{opens_by, opened, active, is_active, is_ended_by_client}

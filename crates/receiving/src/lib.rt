@@ -20,7 +20,7 @@ ghost use Rattle.model.specs.Logs.{Event};
 ghost use Rattle.model.specs.Tapes.{Entry, sent};
 ghost use Rattle.model.specs.Openings.{Opened};
 ghost use Rattle.model.specs.Setup.Passing.{Streaming};
-ghost use Rattle.model.specs.Windows.{first_window};
+ghost use Rattle.model.specs.Limits.{first_window};
 ghost use Rattle.model.specs.WindowsOnTape.{room_on, room_on_connection};
 ghost use Rattle.model.specs.Known.{Known};
 ghost use Rattle.model.specs.Headline.{HoldsInTurn};

@@ -142,11 +142,9 @@ fn config(
         upstream: String::new(alloc),
     };
     Ok(Config {
-        routes: vec![in alloc; route]?,
         policy,
         passing,
-        max_body: 1048576,
-        max_response: 1048576,
         keep: script.keep,
+        ..Config::new(vec![in alloc; route]?)
     })
 }

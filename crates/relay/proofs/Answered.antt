@@ -11,7 +11,8 @@ use Rattle.model.specs.Tapes.{Note, Noted}
 use Rattle.model.specs.Tapes.Note.{NoBlock, Fields}
 use Rattle.model.specs.Tapes.Entry.{Came}
 use Rattle.model.specs.Decoding.{Partial, joined}
-use Rattle.model.specs.StreamStates.{most_streams, state_of, is_above, unopened, opened_or, verdict}
+use Rattle.model.specs.StreamStates.{state_of, is_above, unopened, opened_or, verdict}
+use Rattle.model.specs.Limits.{most_streams}
 use Rattle.model.specs.StreamStates.Standing.{WholeConnection}
 use Rattle.model.specs.ErrorTable.{judged as judged_as, fault_of}
 use Rattle.model.specs.Lifetimes.{may_open, opens_by}

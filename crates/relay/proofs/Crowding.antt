@@ -2,7 +2,7 @@
 use Rattle.std.proofs.Common.{◌<◌, nat_lt, List, sym, ◌∙◌, ap, subst, inl, inr}
 use Rattle.std.proofs.lemmas.Bool.{lt-ltb}
 use Rattle.model.specs.Setup.{Setup}
-use Rattle.model.specs.Admission.{most_untaken}
+use Rattle.model.specs.Limits.{most_untaken}
 use Rattle.conduct.specs.Rows.{find}
 use Rattle.conduct.specs.Book.{Book}
 use Rattle.serving.specs.State as serving

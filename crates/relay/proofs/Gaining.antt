@@ -7,7 +7,8 @@ use Rattle.model.specs.Setup.{Setup}
 use Rattle.model.specs.Tapes.{Noted}
 use Rattle.model.specs.Tapes.Entry.{Came}
 use Rattle.model.specs.Decoding.{Partial}
-use Rattle.model.specs.StreamStates.{StreamState, Standing, Verdict, opened_verdict, verdict, is_content, most_streams}
+use Rattle.model.specs.StreamStates.{StreamState, Standing, Verdict, opened_verdict, verdict, is_content}
+use Rattle.model.specs.Limits.{most_streams}
 use Rattle.model.specs.StreamStates.StreamState.{ResetByUs, ResetByPeer}
 use Rattle.model.specs.StreamStates.Standing.{WholeConnection, Opened, Idle, ServerIdle, Skipped, Beyond}
 use Rattle.model.specs.Lifetimes.{state_by_ends, may_open}

@@ -6,7 +6,7 @@ use Rattle.std.proofs.lemmas.List.Folds.{list_any-append}
 use Rattle.model.specs.Messages.{Item}
 use Rattle.model.specs.Logs.{Event}
 use Rattle.model.specs.Logs.Event.{Up, UpEnd, UpFailed}
-use Rattle.model.specs.ResponseHeads.{longest_section}
+use Rattle.model.specs.Limits.{longest_section}
 use Rattle.model.specs.Setup.{Passing}
 use Rattle.model.specs.Setup.Passing.{Whole}
 use Rattle.model.specs.Tapes.{Entry}

@@ -8,7 +8,7 @@ use Rattle.model.specs.Setup.{Setup}
 use Rattle.model.specs.Tapes.Entry.{Happened}
 use Rattle.model.specs.Openings.{Opened, given}
 use Rattle.model.specs.Courses.{upstream_of}
-use Rattle.model.specs.Idle.{most_idle}
+use Rattle.model.specs.Limits.{most_idle}
 use Rattle.conduct.specs.Book.{Book, Desk, desk_after, summary_in}
 use Rattle.receiving.specs.Policy.{Gates, may_come}
 use Rattle.receiving.specs.State as receiving

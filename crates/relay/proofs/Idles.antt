@@ -6,12 +6,14 @@ use Rattle.model.specs.Logs.{Event}
 use Rattle.model.specs.Logs.Event.{Client, ClientEnd, ClientTook, Up, UpEnd, UpFailed, UpTook}
 use Rattle.model.specs.Setup.{Setup}
 use Rattle.model.specs.Tapes.{Entry}
-use Rattle.model.specs.Responses.{IsComplete, IsPlainlyBad}
+use Rattle.model.specs.Responses.{IsComplete}
+use Rattle.model.specs.Noticing.{IsPlainlyBad}
 use Rattle.model.specs.Openings.{exchange_on}
 use Rattle.model.specs.Available.{heard_by}
 use Rattle.model.specs.Known.{Known}
 use Rattle.model.specs.Courses.{upstream_of}
-use Rattle.model.specs.Idle.{is_asked_for_head, IsIdle, most_idle}
+use Rattle.model.specs.Idle.{is_asked_for_head, IsIdle}
+use Rattle.model.specs.Limits.{most_idle}
 use Rattle.model.proofs.PastLaws.{complete_past}
 use Rattle.conduct.specs.Rule.{AreKnown}
 use Rattle.h1_reader.specs.Parts.{ends_with}

@@ -8,7 +8,7 @@ use Rattle.model.specs.Logs.{Output}
 use Rattle.model.specs.Logs.Output.{ToClient}
 use Rattle.model.specs.Setup.{Setup}
 use Rattle.model.specs.Tapes.{put}
-use Rattle.model.specs.Admission.{most_untaken}
+use Rattle.model.specs.Limits.{most_untaken}
 use Rattle.model.specs.Lifetimes.{may_open}
 use Rattle.model.specs.ErrorClause.{rst_stream}
 use Rattle.model.specs.Openings.{Opened}

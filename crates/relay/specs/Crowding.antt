@@ -1,7 +1,7 @@
 -- Where too many octets for the client are untaken for a frame beside responses, and one would go.
 use Rattle.std.specs.Prelude.{◌≡◌, ◌<◌, ◌⊎◌, ℕ, List, ◌∷◌}
 use Rattle.model.specs.Frames.{Frame}
-use Rattle.model.specs.Admission.{most_untaken}
+use Rattle.model.specs.Limits.{most_untaken}
 use Rattle.serving.specs.State.Due.{Nothing}
 use Rattle.relay.specs.View.{View, Pending, GoBack}
 

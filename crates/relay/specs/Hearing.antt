@@ -1,6 +1,6 @@
 -- What is kept of an upstream's answer, and that it stands for all that was heard of it.
 use Rattle.std.specs.Prelude.{◌≡◌, ℕ, ◌≤◌, false, List, length, Some}
-use Rattle.model.specs.ResponseHeads.{longest_section}
+use Rattle.model.specs.Limits.{longest_section}
 use Rattle.model.specs.Setup.Passing.{Whole}
 use Rattle.model.specs.Tapes.{Entry}
 use Rattle.model.specs.Openings.{exchange_on}

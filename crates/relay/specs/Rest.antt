@@ -2,7 +2,7 @@
 use Rattle.std.specs.Prelude.{◌≡◌, ℕ, ◌<◌, false, List, [], Some}
 use Rattle.std.specs.List.{list_any}
 use Rattle.model.specs.Setup.{Setup}
-use Rattle.model.specs.Admission.{high_water}
+use Rattle.model.specs.Limits.{high_water}
 use Rattle.offering.specs.State as offering
 use Rattle.serving.specs.Told.{Told}
 use Rattle.serving.specs.Rule.{is_done}

@@ -19,7 +19,7 @@ ghost use Rattle.model.specs.Tapes.{Entry, Noted};
 ghost use Rattle.model.specs.Tapes.Note.{Fields};
 ghost use Rattle.model.specs.Tapes.Entry.{Came};
 ghost use Rattle.model.specs.Decoding.{Partial};
-ghost use Rattle.model.specs.StreamStates.{most_streams};
+ghost use Rattle.model.specs.Limits.{most_streams};
 ghost use Rattle.model.specs.Errors.{Fault};
 ghost use Rattle.model.specs.ErrorClause.{is_fatal};
 ghost use Rattle.model.specs.Known.{Known};

@@ -2,7 +2,8 @@
 use Rattle.std.specs.Prelude.{◌≡◌, ◌≢◌, ℕ, ◌+◌, ◌<◌, ◌≤◌, List, [], ◌∷◌, length}
 use Rattle.model.specs.Messages.{Field}
 use Rattle.model.specs.Http2.{pseudo_fields}
-use Rattle.model.specs.ResponseHeads.{Head, longest_section}
+use Rattle.model.specs.ResponseHeads.{Head}
+use Rattle.model.specs.Limits.{longest_section}
 
 -- the octets of all names and values
 abbrev pub field_octets : List Field → ℕ

@@ -7,3 +7,4 @@ pub mod SectionFaults
 pub use Rattle.model.specs.Messages
 pub use Rattle.model.specs.ResponseHeads
 pub use Rattle.model.specs.Responses
+pub use Rattle.model.specs.Limits

@@ -4,8 +4,8 @@ use Rattle.httparse.specs.Grammar as grammar
 use Rattle.httparse.specs.Grammar.{LineEnd, status_code, ReadsResponse, HasNoResponse, MayBecomeResponse, NeverHasResponse, ReadsSection, HasNoSection, MayBecomeSection, NeverHasSection}
 use Rattle.model.specs.Http1.{values_of}
 use Rattle.model.specs.ResponseHeads as model
-use Rattle.model.specs.ResponseHeads.{longest_section, most_fields, meant, framing_of, Interim}
-use Rattle.model.specs.Responses.{most_interims}
+use Rattle.model.specs.ResponseHeads.{meant, framing_of, Interim}
+use Rattle.model.specs.Limits.{longest_section, most_fields, most_interims}
 use Rattle.response_texts.specs.declared.fault.ResponseFault.{ResponseFault}
 use Rattle.response_texts.specs.declared.fault.ResponseFault.TheVariants as fault
 

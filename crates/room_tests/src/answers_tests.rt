@@ -9,6 +9,13 @@ use std::test::*;
 const RESPONSE: &[u8] =
     b"HTTP/1.1 103 Early Hints\r\n\r\nHTTP/1.1 200 OK\r\ncontent-length: 5\r\n\r\nhello";
 
+/// The same without its last octet, and without its last two.
+const BUT_ONE: &[u8] =
+    b"HTTP/1.1 103 Early Hints\r\n\r\nHTTP/1.1 200 OK\r\ncontent-length: 5\r\n\r\nhell";
+
+const BUT_TWO: &[u8] =
+    b"HTTP/1.1 103 Early Hints\r\n\r\nHTTP/1.1 200 OK\r\ncontent-length: 5\r\n\r\nhel";
+
 /// A response whose body goes on until the connection ends.
 const UNTIL_END: &[u8] = b"HTTP/1.1 200 OK\r\n\r\nhello";
 
@@ -107,121 +114,131 @@ fn an_answer_is_passed_on_as_it_is_told_to(rt: HostRuntime) {
     assert_eq!(rt; answer.passing(), Passing::Whole(5));
 }
 
-#[test]
-fn a_whole_response_waits_for_its_end(rt: HostRuntime) -> Result<(), Fail> {
-    let (front, rest) = RESPONSE.split_at(RESPONSE.len() - 1);
-    let steps = [
-        Step::Hears(front, Heard::GoesOn),
-        Step::Sends(Next::Early(103)),
-        Step::Sends(Next::Nothing),
-        Step::Hears(rest, Heard::Keepable),
-        Step::Sends(Next::Final(200, false)),
-        Step::Sends(Next::Octets(5, true)),
-        Step::Sends(Next::Nothing),
-    ];
-    let first = first_that_differs(rt.alloc(), Passing::Whole(5), &steps)?;
-    assert_eq!(rt; first, None);
-    Ok(())
-}
-
-#[test]
-fn a_streamed_response_goes_as_it_comes(rt: HostRuntime) -> Result<(), Fail> {
-    let (front, rest) = RESPONSE.split_at(RESPONSE.len() - 2);
-    let steps = [
-        Step::Hears(front, Heard::GoesOn),
-        Step::Sends(Next::Early(103)),
-        Step::Sends(Next::Final(200, false)),
-        Step::Sends(Next::Octets(3, false)),
-        Step::Sends(Next::Nothing),
-        Step::Hears(rest, Heard::Keepable),
-        Step::Sends(Next::Octets(2, true)),
-    ];
-    let first = first_that_differs(rt.alloc(), Passing::Streaming, &steps)?;
-    assert_eq!(rt; first, None);
-    Ok(())
-}
-
-#[test]
-fn what_is_no_response_fails(rt: HostRuntime) -> Result<(), Fail> {
-    let too_long = [
-        Step::Hears(RESPONSE, Heard::Failed),
-        Step::Sends(Next::Nothing),
-    ];
-    let first = first_that_differs(rt.alloc(), Passing::Whole(4), &too_long)?;
-    assert_eq!(rt; first, None);
-    let other = [
-        Step::Hears(b"SMTP ready\r\n\r\n", Heard::Failed),
-        Step::Sends(Next::Nothing),
-    ];
-    let first = first_that_differs(rt.alloc(), Passing::Streaming, &other)?;
-    assert_eq!(rt; first, None);
-    Ok(())
-}
-
-#[test]
-fn the_end_makes_a_response_whole_or_cuts_it_short(rt: HostRuntime) -> Result<(), Fail> {
-    let whole = [
-        Step::Hears(UNTIL_END, Heard::GoesOn),
-        Step::Sends(Next::Nothing),
-        Step::Ends(Ended::Complete),
-        Step::Sends(Next::Final(200, false)),
-        Step::Sends(Next::Octets(5, true)),
-    ];
-    let first = first_that_differs(rt.alloc(), Passing::Whole(100), &whole)?;
-    assert_eq!(rt; first, None);
-    let cut = [
-        Step::Hears(&RESPONSE[..RESPONSE.len() - 1], Heard::GoesOn),
-        Step::Ends(Ended::Short),
-    ];
-    let first = first_that_differs(rt.alloc(), Passing::Whole(100), &cut)?;
-    assert_eq!(rt; first, None);
-    Ok(())
-}
-
-#[test]
-fn a_whole_response_tells_whether_its_connection_may_be_kept(rt: HostRuntime) -> Result<(), Fail> {
-    let ends: [Step; 4] = [
-        Step::Hears(b"HTTP/1.1 204 No Content\r\n\r\n", Heard::Keepable),
-        Step::Hears(b"HTTP/1.1 204 No Content\r\n\r\nH", Heard::Finished),
-        Step::Hears(b"HTTP/1.0 204 No Content\r\n\r\n", Heard::Finished),
-        Step::Hears(
-            b"HTTP/1.1 204 No Content\r\nConnection: te, Close\r\n\r\n",
-            Heard::Finished,
-        ),
-    ];
-    for end in &ends {
-        let first = first_that_differs(rt.alloc(), Passing::Streaming, &[*end])?;
-        assert_eq!(rt; first, None);
-    }
-    Ok(())
-}
-
 /// A response in chunks, behind which two fields are passed back and one isn't.
 const TRAILING: &[u8] =
     b"HTTP/1.1 200 OK\r\nTransfer-Encoding: chunked\r\n\r\n2\r\nhi\r\n0\r\nX-A: 1\r\nContent-Length: 2\r\nX-B: 3\r\n\r\n";
 
+/// The same without its last octet.
+const TRAILING_BUT_ONE: &[u8] =
+    b"HTTP/1.1 200 OK\r\nTransfer-Encoding: chunked\r\n\r\n2\r\nhi\r\n0\r\nX-A: 1\r\nContent-Length: 2\r\nX-B: 3\r\n\r";
+
+/// Rows: what each shows, how a new answer is passed on, and its steps.
+static ROWS: [(&str, Passing, &[Step]); 12] = [
+    (
+        "a whole response waits for its end",
+        Passing::Whole(5),
+        &[
+            Step::Hears(BUT_ONE, Heard::GoesOn),
+            Step::Sends(Next::Early(103)),
+            Step::Sends(Next::Nothing),
+            Step::Hears(b"o", Heard::Keepable),
+            Step::Sends(Next::Final(200, false)),
+            Step::Sends(Next::Octets(5, true)),
+            Step::Sends(Next::Nothing),
+        ],
+    ),
+    (
+        "a streamed response goes as it comes",
+        Passing::Streaming,
+        &[
+            Step::Hears(BUT_TWO, Heard::GoesOn),
+            Step::Sends(Next::Early(103)),
+            Step::Sends(Next::Final(200, false)),
+            Step::Sends(Next::Octets(3, false)),
+            Step::Sends(Next::Nothing),
+            Step::Hears(b"lo", Heard::Keepable),
+            Step::Sends(Next::Octets(2, true)),
+        ],
+    ),
+    (
+        "what is too long fails",
+        Passing::Whole(4),
+        &[
+            Step::Hears(RESPONSE, Heard::Failed),
+            Step::Sends(Next::Nothing),
+        ],
+    ),
+    (
+        "what is no response fails",
+        Passing::Streaming,
+        &[
+            Step::Hears(b"SMTP ready\r\n\r\n", Heard::Failed),
+            Step::Sends(Next::Nothing),
+        ],
+    ),
+    (
+        "the end makes a response whole",
+        Passing::Whole(100),
+        &[
+            Step::Hears(UNTIL_END, Heard::GoesOn),
+            Step::Sends(Next::Nothing),
+            Step::Ends(Ended::Complete),
+            Step::Sends(Next::Final(200, false)),
+            Step::Sends(Next::Octets(5, true)),
+        ],
+    ),
+    (
+        "the end cuts a response short",
+        Passing::Whole(100),
+        &[
+            Step::Hears(BUT_ONE, Heard::GoesOn),
+            Step::Ends(Ended::Short),
+        ],
+    ),
+    (
+        "a connection may be kept",
+        Passing::Streaming,
+        &[Step::Hears(b"HTTP/1.1 204 No Content\r\n\r\n", Heard::Keepable)],
+    ),
+    (
+        "a connection with more octets isn't kept",
+        Passing::Streaming,
+        &[Step::Hears(b"HTTP/1.1 204 No Content\r\n\r\nH", Heard::Finished)],
+    ),
+    (
+        "a connection by HTTP/1.0 isn't kept",
+        Passing::Streaming,
+        &[Step::Hears(b"HTTP/1.0 204 No Content\r\n\r\n", Heard::Finished)],
+    ),
+    (
+        "a connection that is to be closed isn't kept",
+        Passing::Streaming,
+        &[Step::Hears(
+            b"HTTP/1.1 204 No Content\r\nConnection: te, Close\r\n\r\n",
+            Heard::Finished,
+        )],
+    ),
+    (
+        "trailers go behind the body of a whole response",
+        Passing::Whole(2),
+        &[
+            Step::Hears(TRAILING, Heard::Keepable),
+            Step::Sends(Next::Final(200, false)),
+            Step::Sends(Next::Octets(2, false)),
+            Step::Sends(Next::Trailers(2)),
+            Step::Sends(Next::Nothing),
+        ],
+    ),
+    (
+        "trailers go behind the body as they come",
+        Passing::Streaming,
+        &[
+            Step::Hears(TRAILING_BUT_ONE, Heard::GoesOn),
+            Step::Sends(Next::Final(200, false)),
+            Step::Sends(Next::Octets(2, false)),
+            Step::Sends(Next::Nothing),
+            Step::Hears(b"\n", Heard::Keepable),
+            Step::Sends(Next::Trailers(2)),
+            Step::Sends(Next::Nothing),
+        ],
+    ),
+];
+
 #[test]
-fn trailers_go_behind_the_body(rt: HostRuntime) -> Result<(), Fail> {
-    let whole = [
-        Step::Hears(TRAILING, Heard::Keepable),
-        Step::Sends(Next::Final(200, false)),
-        Step::Sends(Next::Octets(2, false)),
-        Step::Sends(Next::Trailers(2)),
-        Step::Sends(Next::Nothing),
-    ];
-    let first = first_that_differs(rt.alloc(), Passing::Whole(2), &whole)?;
-    assert_eq!(rt; first, None);
-    let (front, rest) = TRAILING.split_at(TRAILING.len() - 1);
-    let streamed = [
-        Step::Hears(front, Heard::GoesOn),
-        Step::Sends(Next::Final(200, false)),
-        Step::Sends(Next::Octets(2, false)),
-        Step::Sends(Next::Nothing),
-        Step::Hears(rest, Heard::Keepable),
-        Step::Sends(Next::Trailers(2)),
-        Step::Sends(Next::Nothing),
-    ];
-    let first = first_that_differs(rt.alloc(), Passing::Streaming, &streamed)?;
-    assert_eq!(rt; first, None);
+fn answers_come_to_what_they_should(rt: HostRuntime) -> Result<(), Fail> {
+    for (name, passing, steps) in &ROWS {
+        let first = first_that_differs(rt.alloc(), *passing, steps)?;
+        assert_eq!(rt; first, None, "{name}");
+    }
     Ok(())
 }

@@ -198,36 +198,6 @@ fn first_that_differs(alloc: Global, steps: &[Step<'_>]) -> Result<Option<usize>
 }
 
 #[test]
-fn streams_are_opened_and_closed(rt: HostRuntime) -> Result<(), Fail> {
-    let steps = [
-        Step::IsKept(3, true),
-        Step::IsKept(2, false),
-        Step::Closes(3),
-        Step::Closes(2),
-        Step::IsKept(1, true),
-        Step::IsKept(3, false),
-        Step::IsKept(5, true),
-    ];
-    assert_eq!(rt; first_that_differs(rt.alloc(), &steps)?, None);
-    Ok(())
-}
-
-#[test]
-fn what_is_heard_goes_to_its_stream(rt: HostRuntime) -> Result<(), Fail> {
-    let steps = [
-        Step::Hears(3, RESPONSE, Some(Heard::Keepable)),
-        Step::Waits(1, 9, Next::Nothing),
-        Step::Sends(3, 9, Next::Final(200, false)),
-        Step::Sends(3, 2, Next::Octets(2, false)),
-        Step::Sends(3, 9, Next::Octets(3, true)),
-        Step::Sends(3, 9, Next::Nothing),
-        Step::Hears(7, RESPONSE, None),
-    ];
-    assert_eq!(rt; first_that_differs(rt.alloc(), &steps)?, None);
-    Ok(())
-}
-
-#[test]
 fn a_stream_is_looked_for_behind_the_last_one(rt: HostRuntime) -> Result<(), Fail> {
     let offers = three(rt.alloc())?;
     let mut guess = 0;
@@ -236,125 +206,140 @@ fn a_stream_is_looked_for_behind_the_last_one(rt: HostRuntime) -> Result<(), Fai
     Ok(())
 }
 
-#[test]
-fn what_waits_of_a_body_is_held_for_its_stream(rt: HostRuntime) -> Result<(), Fail> {
-    let steps = [
-        Step::Hears(3, RESPONSE, Some(Heard::Keepable)),
-        Step::Holds(3, 5),
-        Step::Holds(1, 0),
-        Step::Sends(3, 9, Next::Final(200, false)),
-        Step::Sends(3, 2, Next::Octets(2, false)),
-        Step::Holds(3, 3),
-        Step::Closes(3),
-        Step::Holds(3, 0),
-        Step::Holds(7, 0),
-    ];
-    assert_eq!(rt; first_that_differs(rt.alloc(), &steps)?, None);
-    Ok(())
-}
+/// Rows: what each shows, and steps where three streams are active.
+static ROWS: [(&str, &[Step]); 9] = [
+    (
+        "streams are opened and closed",
+        &[
+            Step::IsKept(3, true),
+            Step::IsKept(2, false),
+            Step::Closes(3),
+            Step::Closes(2),
+            Step::IsKept(1, true),
+            Step::IsKept(3, false),
+            Step::IsKept(5, true),
+        ],
+    ),
+    (
+        "what is heard goes to its stream",
+        &[
+            Step::Hears(3, RESPONSE, Some(Heard::Keepable)),
+            Step::Waits(1, 9, Next::Nothing),
+            Step::Sends(3, 9, Next::Final(200, false)),
+            Step::Sends(3, 2, Next::Octets(2, false)),
+            Step::Sends(3, 9, Next::Octets(3, true)),
+            Step::Sends(3, 9, Next::Nothing),
+            Step::Hears(7, RESPONSE, None),
+        ],
+    ),
+    (
+        "what waits of a body is held for its stream",
+        &[
+            Step::Hears(3, RESPONSE, Some(Heard::Keepable)),
+            Step::Holds(3, 5),
+            Step::Holds(1, 0),
+            Step::Sends(3, 9, Next::Final(200, false)),
+            Step::Sends(3, 2, Next::Octets(2, false)),
+            Step::Holds(3, 3),
+            Step::Closes(3),
+            Step::Holds(3, 0),
+            Step::Holds(7, 0),
+        ],
+    ),
+    (
+        "the end of a connection ends its stream",
+        &[
+            Step::Hears(5, b"HTTP/1.1 200 OK\r\n\r\n", Some(Heard::GoesOn)),
+            Step::Sends(5, 9, Next::Final(200, false)),
+            Step::Waits(5, 9, Next::Nothing),
+            Step::Ends(5, Some(Ended::Complete)),
+            Step::Sends(5, 9, Next::Octets(0, true)),
+        ],
+    ),
+    (
+        "a reply takes the place of a response",
+        &[
+            Step::Hears(1, RESPONSE, Some(Heard::Keepable)),
+            Step::Replies(1, Cause::BadAnswer),
+            Step::Replies(7, Cause::BadAnswer),
+            Step::IsCut(1, false),
+            Step::Sends(1, 9, Next::Final(502, true)),
+            Step::Waits(1, 9, Next::Nothing),
+        ],
+    ),
+    (
+        "a reply behind a final head is a reset",
+        &[
+            Step::Hears(1, RESPONSE, Some(Heard::Keepable)),
+            Step::Sends(1, 9, Next::Final(200, false)),
+            Step::Turns(FIRST_SIZE, 65535, Some(1)),
+            Step::Replies(1, Cause::LargeBody),
+            Step::IsCut(1, true),
+            Step::IsCut(3, false),
+            Step::Turns(FIRST_SIZE, 65535, None),
+        ],
+    ),
+    (
+        "turns go round",
+        &[
+            Step::Turns(FIRST_SIZE, 9, None),
+            Step::Hears(1, RESPONSE, Some(Heard::Keepable)),
+            Step::Anew,
+            Step::Hears(3, RESPONSE, Some(Heard::Keepable)),
+            Step::Anew,
+            Step::Hears(5, RESPONSE, Some(Heard::Keepable)),
+            Step::Turns(FIRST_SIZE, 9, Some(1)),
+            Step::Sends(1, 2, Next::Final(200, false)),
+            Step::Turns(FIRST_SIZE, 9, Some(3)),
+            Step::Sends(3, 2, Next::Final(200, false)),
+            Step::Turns(FIRST_SIZE, 9, Some(5)),
+            Step::Sends(5, 2, Next::Final(200, false)),
+            Step::Turns(FIRST_SIZE, 9, Some(1)),
+            Step::Sends(1, 2, Next::Octets(2, false)),
+            Step::Turns(FIRST_SIZE, 9, Some(3)),
+            Step::Sends(3, 2, Next::Octets(2, false)),
+            Step::Turns(FIRST_SIZE, 9, Some(5)),
+            Step::Sends(5, 2, Next::Octets(2, false)),
+            Step::Closes(1),
+            Step::Turns(FIRST_SIZE, 9, Some(3)),
+        ],
+    ),
+    (
+        "trailers wait for their body and for no window",
+        &[
+            Step::Hears(3, TRAILING, Some(Heard::Keepable)),
+            Step::Opens(3),
+            Step::Sends(3, 9, Next::Final(200, false)),
+            Step::Turns(0, 9, None),
+            Step::Turns(9, 9, Some(3)),
+            Step::Sends(3, 9, Next::Octets(2, false)),
+            Step::Waits(3, 9, Next::Trailers(1)),
+            Step::Turns(0, 0, Some(3)),
+            Step::Sends(3, 9, Next::Trailers(1)),
+            Step::Turns(9, 9, None),
+            Step::Waits(3, 9, Next::Nothing),
+        ],
+    ),
+    (
+        "closed windows hold octets and no heads",
+        &[
+            Step::Hears(3, RESPONSE, Some(Heard::Keepable)),
+            Step::Opens(3),
+            Step::Turns(0, -1, Some(3)),
+            Step::Sends(3, 9, Next::Final(200, false)),
+            Step::Turns(0, 9, None),
+            Step::Turns(9, 0, None),
+            Step::Turns(1, 1, Some(3)),
+            Step::Sends(3, 9, Next::Octets(5, true)),
+            Step::Turns(9, 9, None),
+        ],
+    ),
+];
 
 #[test]
-fn the_end_of_a_connection_ends_its_stream(rt: HostRuntime) -> Result<(), Fail> {
-    let steps = [
-        Step::Hears(5, b"HTTP/1.1 200 OK\r\n\r\n", Some(Heard::GoesOn)),
-        Step::Sends(5, 9, Next::Final(200, false)),
-        Step::Waits(5, 9, Next::Nothing),
-        Step::Ends(5, Some(Ended::Complete)),
-        Step::Sends(5, 9, Next::Octets(0, true)),
-    ];
-    assert_eq!(rt; first_that_differs(rt.alloc(), &steps)?, None);
-    Ok(())
-}
-
-#[test]
-fn a_reply_takes_the_place_of_a_response(rt: HostRuntime) -> Result<(), Fail> {
-    let steps = [
-        Step::Hears(1, RESPONSE, Some(Heard::Keepable)),
-        Step::Replies(1, Cause::BadAnswer),
-        Step::Replies(7, Cause::BadAnswer),
-        Step::IsCut(1, false),
-        Step::Sends(1, 9, Next::Final(502, true)),
-        Step::Waits(1, 9, Next::Nothing),
-    ];
-    assert_eq!(rt; first_that_differs(rt.alloc(), &steps)?, None);
-    Ok(())
-}
-
-#[test]
-fn a_reply_behind_a_final_head_is_a_reset(rt: HostRuntime) -> Result<(), Fail> {
-    let steps = [
-        Step::Hears(1, RESPONSE, Some(Heard::Keepable)),
-        Step::Sends(1, 9, Next::Final(200, false)),
-        Step::Turns(FIRST_SIZE, 65535, Some(1)),
-        Step::Replies(1, Cause::LargeBody),
-        Step::IsCut(1, true),
-        Step::IsCut(3, false),
-        Step::Turns(FIRST_SIZE, 65535, None),
-    ];
-    assert_eq!(rt; first_that_differs(rt.alloc(), &steps)?, None);
-    Ok(())
-}
-
-#[test]
-fn turns_go_round(rt: HostRuntime) -> Result<(), Fail> {
-    let steps = [
-        Step::Turns(FIRST_SIZE, 9, None),
-        Step::Hears(1, RESPONSE, Some(Heard::Keepable)),
-        Step::Anew,
-        Step::Hears(3, RESPONSE, Some(Heard::Keepable)),
-        Step::Anew,
-        Step::Hears(5, RESPONSE, Some(Heard::Keepable)),
-        Step::Turns(FIRST_SIZE, 9, Some(1)),
-        Step::Sends(1, 2, Next::Final(200, false)),
-        Step::Turns(FIRST_SIZE, 9, Some(3)),
-        Step::Sends(3, 2, Next::Final(200, false)),
-        Step::Turns(FIRST_SIZE, 9, Some(5)),
-        Step::Sends(5, 2, Next::Final(200, false)),
-        Step::Turns(FIRST_SIZE, 9, Some(1)),
-        Step::Sends(1, 2, Next::Octets(2, false)),
-        Step::Turns(FIRST_SIZE, 9, Some(3)),
-        Step::Sends(3, 2, Next::Octets(2, false)),
-        Step::Turns(FIRST_SIZE, 9, Some(5)),
-        Step::Sends(5, 2, Next::Octets(2, false)),
-        Step::Closes(1),
-        Step::Turns(FIRST_SIZE, 9, Some(3)),
-    ];
-    assert_eq!(rt; first_that_differs(rt.alloc(), &steps)?, None);
-    Ok(())
-}
-
-#[test]
-fn trailers_wait_for_their_body_and_for_no_window(rt: HostRuntime) -> Result<(), Fail> {
-    let steps = [
-        Step::Hears(3, TRAILING, Some(Heard::Keepable)),
-        Step::Opens(3),
-        Step::Sends(3, 9, Next::Final(200, false)),
-        Step::Turns(0, 9, None),
-        Step::Turns(9, 9, Some(3)),
-        Step::Sends(3, 9, Next::Octets(2, false)),
-        Step::Waits(3, 9, Next::Trailers(1)),
-        Step::Turns(0, 0, Some(3)),
-        Step::Sends(3, 9, Next::Trailers(1)),
-        Step::Turns(9, 9, None),
-        Step::Waits(3, 9, Next::Nothing),
-    ];
-    assert_eq!(rt; first_that_differs(rt.alloc(), &steps)?, None);
-    Ok(())
-}
-
-#[test]
-fn closed_windows_hold_octets_and_no_heads(rt: HostRuntime) -> Result<(), Fail> {
-    let steps = [
-        Step::Hears(3, RESPONSE, Some(Heard::Keepable)),
-        Step::Opens(3),
-        Step::Turns(0, -1, Some(3)),
-        Step::Sends(3, 9, Next::Final(200, false)),
-        Step::Turns(0, 9, None),
-        Step::Turns(9, 0, None),
-        Step::Turns(1, 1, Some(3)),
-        Step::Sends(3, 9, Next::Octets(5, true)),
-        Step::Turns(9, 9, None),
-    ];
-    assert_eq!(rt; first_that_differs(rt.alloc(), &steps)?, None);
+fn offers_come_to_what_they_should(rt: HostRuntime) -> Result<(), Fail> {
+    for (name, steps) in &ROWS {
+        assert_eq!(rt; first_that_differs(rt.alloc(), steps)?, None, "{name}");
+    }
     Ok(())
 }

@@ -158,189 +158,168 @@ fn first_that_differs(alloc: Global, calls: &[Call<'_>]) -> Result<Option<usize>
     Ok(None)
 }
 
-#[test]
-fn nothing_goes_of_a_new_outbox(rt: HostRuntime) -> Result<(), Fail> {
-    let calls = [
-        Call::CanGo(true, false),
-        Call::Begun(false),
-        Call::Nothing(100),
-        Call::Held(0),
-    ];
-    assert_eq!(rt; first_that_differs(rt.alloc(), &calls)?, None);
-    Ok(())
-}
+/// Rows: what each shows, and calls of a new outbox.
+static ROWS: [(&str, &[Call]); 11] = [
+    (
+        "nothing goes of a new outbox",
+        &[
+            Call::CanGo(true, false),
+            Call::Begun(false),
+            Call::Nothing(100),
+            Call::Held(0),
+        ],
+    ),
+    (
+        "parts go in their order",
+        &[
+            Call::Come(RESPONSE),
+            Call::Held(5),
+            Call::Head(103, false),
+            Call::TakeHead(true),
+            Call::Head(200, false),
+            Call::TakeHead(true),
+            Call::Begun(true),
+            Call::TakeHead(false),
+            Call::Octets(3, b"hel", b"", false),
+            Call::Drop(3),
+            Call::Held(2),
+            Call::CanGo(true, true),
+            Call::CanGo(false, false),
+            Call::Octets(3, b"lo", b"", true),
+            Call::Drop(3),
+            Call::Nothing(3),
+            Call::Held(0),
+            Call::CanGo(true, false),
+        ],
+    ),
+    (
+        "octets join those that wait",
+        &[
+            Call::Come(OPEN),
+            Call::TakeHead(true),
+            Call::Drop(1),
+            Call::Add(b" you", false),
+            Call::Octets(100, b"ello you", b"", false),
+            Call::Drop(6),
+            Call::Add(b"rs", true),
+            Call::Octets(100, b"ours", b"", true),
+            Call::Held(4),
+        ],
+    ),
+    (
+        "the end goes alone behind all octets",
+        &[
+            Call::Come(OPEN),
+            Call::TakeHead(true),
+            Call::Drop(9),
+            Call::CanGo(true, false),
+            Call::Add(b"", true),
+            Call::CanGo(false, true),
+            Call::Octets(9, b"", b"", true),
+            Call::Drop(9),
+            Call::Nothing(9),
+        ],
+    ),
+    (
+        "trailers go behind all octets and need no window",
+        &[
+            Call::Come(TRAILING),
+            Call::TakeTrailers(false),
+            Call::Head(200, false),
+            Call::TakeHead(true),
+            Call::CanGo(false, false),
+            Call::Octets(9, b"hi", b"", false),
+            Call::TakeTrailers(false),
+            Call::Drop(1),
+            Call::CanGo(false, false),
+            Call::Octets(9, b"i", b"", false),
+            Call::Drop(9),
+            Call::Held(0),
+            Call::CanGo(false, true),
+            Call::Trailers(2),
+            Call::TakeHead(false),
+            Call::TakeTrailers(true),
+            Call::TakeTrailers(false),
+            Call::CanGo(true, false),
+            Call::Nothing(9),
+        ],
+    ),
+    (
+        "a reply takes the place of trailers",
+        &[
+            Call::Come(TRAILING),
+            Call::Reply(REPLY),
+            Call::Head(502, true),
+            Call::TakeHead(true),
+            Call::Nothing(9),
+        ],
+    ),
+    (
+        "a head alone ends a response without body",
+        &[
+            Call::Come(b"HTTP/1.1 204 No Content\r\n\r\n"),
+            Call::Head(204, true),
+            Call::TakeHead(true),
+            Call::Begun(true),
+            Call::Nothing(1),
+        ],
+    ),
+    (
+        "a reply takes the place of what was on offer",
+        &[
+            Call::Come(RESPONSE),
+            Call::Reply(REPLY),
+            Call::Head(502, true),
+        ],
+    ),
+    (
+        "a ring goes round",
+        &[
+            Call::Come(HEAD),
+            Call::TakeHead(true),
+            Call::Add(b"01234", false),
+            Call::Add(b"56789", false),
+            Call::Drop(8),
+            Call::Add(b"abcdefghijklmno", true),
+            Call::Held(17),
+            Call::Octets(13, b"89abcdefghij", b"k", false),
+            Call::Octets(17, b"89abcdefghij", b"klmno", true),
+            Call::Drop(13),
+            Call::Octets(17, b"lmno", b"", true),
+        ],
+    ),
+    (
+        "a ring grows",
+        &[
+            Call::Come(HEAD),
+            Call::TakeHead(true),
+            Call::Add(b"01", false),
+            Call::Add(b"2", false),
+            Call::Drop(2),
+            Call::Add(b"34567", false),
+            Call::Add(b"89abcdef", false),
+            Call::Octets(20, b"23456789abcdef", b"", false),
+        ],
+    ),
+    (
+        "what no ring holds stands in one piece",
+        &[
+            Call::Come(HEAD),
+            Call::TakeHead(true),
+            Call::Add(&LONG, false),
+            Call::Drop(10000),
+            Call::Add(&LONG, false),
+            Call::Held(70000),
+            Call::Drop(69999),
+            Call::Octets(20, b"\x07", b"", false),
+        ],
+    ),
+];
 
 #[test]
-fn parts_go_in_their_order(rt: HostRuntime) -> Result<(), Fail> {
-    let calls = [
-        Call::Come(RESPONSE),
-        Call::Held(5),
-        Call::Head(103, false),
-        Call::TakeHead(true),
-        Call::Head(200, false),
-        Call::TakeHead(true),
-        Call::Begun(true),
-        Call::TakeHead(false),
-        Call::Octets(3, b"hel", b"", false),
-        Call::Drop(3),
-        Call::Held(2),
-        Call::CanGo(true, true),
-        Call::CanGo(false, false),
-        Call::Octets(3, b"lo", b"", true),
-        Call::Drop(3),
-        Call::Nothing(3),
-        Call::Held(0),
-        Call::CanGo(true, false),
-    ];
-    assert_eq!(rt; first_that_differs(rt.alloc(), &calls)?, None);
-    Ok(())
-}
-
-#[test]
-fn octets_join_those_that_wait(rt: HostRuntime) -> Result<(), Fail> {
-    let calls = [
-        Call::Come(OPEN),
-        Call::TakeHead(true),
-        Call::Drop(1),
-        Call::Add(b" you", false),
-        Call::Octets(100, b"ello you", b"", false),
-        Call::Drop(6),
-        Call::Add(b"rs", true),
-        Call::Octets(100, b"ours", b"", true),
-        Call::Held(4),
-    ];
-    assert_eq!(rt; first_that_differs(rt.alloc(), &calls)?, None);
-    Ok(())
-}
-
-#[test]
-fn the_end_goes_alone_behind_all_octets(rt: HostRuntime) -> Result<(), Fail> {
-    let calls = [
-        Call::Come(OPEN),
-        Call::TakeHead(true),
-        Call::Drop(9),
-        Call::CanGo(true, false),
-        Call::Add(b"", true),
-        Call::CanGo(false, true),
-        Call::Octets(9, b"", b"", true),
-        Call::Drop(9),
-        Call::Nothing(9),
-    ];
-    assert_eq!(rt; first_that_differs(rt.alloc(), &calls)?, None);
-    Ok(())
-}
-
-#[test]
-fn trailers_go_behind_all_octets_and_need_no_window(rt: HostRuntime) -> Result<(), Fail> {
-    let calls = [
-        Call::Come(TRAILING),
-        Call::TakeTrailers(false),
-        Call::Head(200, false),
-        Call::TakeHead(true),
-        Call::CanGo(false, false),
-        Call::Octets(9, b"hi", b"", false),
-        Call::TakeTrailers(false),
-        Call::Drop(1),
-        Call::CanGo(false, false),
-        Call::Octets(9, b"i", b"", false),
-        Call::Drop(9),
-        Call::Held(0),
-        Call::CanGo(false, true),
-        Call::Trailers(2),
-        Call::TakeHead(false),
-        Call::TakeTrailers(true),
-        Call::TakeTrailers(false),
-        Call::CanGo(true, false),
-        Call::Nothing(9),
-    ];
-    assert_eq!(rt; first_that_differs(rt.alloc(), &calls)?, None);
-    Ok(())
-}
-
-#[test]
-fn a_reply_takes_the_place_of_trailers(rt: HostRuntime) -> Result<(), Fail> {
-    let calls = [
-        Call::Come(TRAILING),
-        Call::Reply(REPLY),
-        Call::Head(502, true),
-        Call::TakeHead(true),
-        Call::Nothing(9),
-    ];
-    assert_eq!(rt; first_that_differs(rt.alloc(), &calls)?, None);
-    Ok(())
-}
-
-#[test]
-fn a_head_alone_ends_a_response_without_body(rt: HostRuntime) -> Result<(), Fail> {
-    let calls = [
-        Call::Come(b"HTTP/1.1 204 No Content\r\n\r\n"),
-        Call::Head(204, true),
-        Call::TakeHead(true),
-        Call::Begun(true),
-        Call::Nothing(1),
-    ];
-    assert_eq!(rt; first_that_differs(rt.alloc(), &calls)?, None);
-    Ok(())
-}
-
-#[test]
-fn a_reply_takes_the_place_of_what_was_on_offer(rt: HostRuntime) -> Result<(), Fail> {
-    let calls = [
-        Call::Come(RESPONSE),
-        Call::Reply(REPLY),
-        Call::Head(502, true),
-    ];
-    assert_eq!(rt; first_that_differs(rt.alloc(), &calls)?, None);
-    Ok(())
-}
-
-#[test]
-fn a_ring_goes_round(rt: HostRuntime) -> Result<(), Fail> {
-    let calls = [
-        Call::Come(HEAD),
-        Call::TakeHead(true),
-        Call::Add(b"01234", false),
-        Call::Add(b"56789", false),
-        Call::Drop(8),
-        Call::Add(b"abcdefghijklmno", true),
-        Call::Held(17),
-        Call::Octets(13, b"89abcdefghij", b"k", false),
-        Call::Octets(17, b"89abcdefghij", b"klmno", true),
-        Call::Drop(13),
-        Call::Octets(17, b"lmno", b"", true),
-    ];
-    assert_eq!(rt; first_that_differs(rt.alloc(), &calls)?, None);
-    Ok(())
-}
-
-#[test]
-fn a_ring_grows(rt: HostRuntime) -> Result<(), Fail> {
-    let calls = [
-        Call::Come(HEAD),
-        Call::TakeHead(true),
-        Call::Add(b"01", false),
-        Call::Add(b"2", false),
-        Call::Drop(2),
-        Call::Add(b"34567", false),
-        Call::Add(b"89abcdef", false),
-        Call::Octets(20, b"23456789abcdef", b"", false),
-    ];
-    assert_eq!(rt; first_that_differs(rt.alloc(), &calls)?, None);
-    Ok(())
-}
-
-#[test]
-fn what_no_ring_holds_stands_in_one_piece(rt: HostRuntime) -> Result<(), Fail> {
-    let calls = [
-        Call::Come(HEAD),
-        Call::TakeHead(true),
-        Call::Add(&LONG, false),
-        Call::Drop(10000),
-        Call::Add(&LONG, false),
-        Call::Held(70000),
-        Call::Drop(69999),
-        Call::Octets(20, b"\x07", b"", false),
-    ];
-    assert_eq!(rt; first_that_differs(rt.alloc(), &calls)?, None);
+fn outboxes_answer_as_they_should(rt: HostRuntime) -> Result<(), Fail> {
+    for (name, calls) in &ROWS {
+        assert_eq!(rt; first_that_differs(rt.alloc(), calls)?, None, "{name}");
+    }
     Ok(())
 }

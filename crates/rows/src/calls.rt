@@ -4,7 +4,7 @@ ghost use Rattle.std.specs.Prelude.{IfOk};
 ghost use Rattle.gateway.specs.Setups.{setup_of, IsServable};
 ghost use Rattle.rows.specs.Driven.{IsDriven};
 
-use gateway::{Config, Event, Gateway, Output, Passing, Policy, Route, RunFault, run, run_into};
+use gateway::{Config, Event, Gateway, Output, Passing, Route, RunFault, run, run_into};
 use std::alloc::{AllocError, Global};
 use std::string::String;
 use std::test::*;
@@ -46,12 +46,10 @@ fn config(alloc: Global, passing: Passing) -> Result<Config, AllocError>
         upstream: String::new(alloc),
     };
     Ok(Config {
-        routes: vec![in alloc; route]?,
-        policy: Policy::Plain,
         passing,
         max_body: 1000,
         max_response: 2000,
-        keep: false,
+        ..Config::new(vec![in alloc; route]?)
     })
 }
 
@@ -239,25 +237,6 @@ fn answer_exchange(steps: &[Vec<Output>]) -> bool {
         }
         _ => false,
     }
-}
-
-#[test]
-fn a_run_answers_each_event(rt: HostRuntime) -> Result<(), Fail> {
-    let config = config(rt.alloc(), Passing::Whole)?;
-    match steps_of(rt.alloc(), &config, &exchange(rt.alloc())?) {
-        Ok(steps) => assert!(rt; answer_exchange(&steps)),
-        Err(_) => return Err("the run was refused".into()),
-    }
-    Ok(())
-}
-
-#[test]
-fn a_run_names_the_first_event_that_may_not_come(rt: HostRuntime) -> Result<(), Fail> {
-    let mut events = exchange(rt.alloc())?;
-    events.push(Event::ClientEnd)?;
-    let fault = fault_of(rt.alloc(), Passing::Whole, &events)?;
-    assert!(rt; fault == Some(RunFault::NotAdmitted(4)));
-    Ok(())
 }
 
 /// Why a run of these events is refused, with what was put out before in place of what a list has.

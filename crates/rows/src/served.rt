@@ -3,7 +3,7 @@
 ghost use Rattle.std.specs.Prelude.{◌≡◌, IfOk};
 ghost use Rattle.gateway.specs.Setups.{setup_of, IsServable};
 
-use gateway::{Config, Event, Output, Passing, Policy, Route};
+use gateway::{Config, Event, Output, Route};
 use std::alloc::{AllocError, Global};
 use std::io;
 use std::io::Write;
@@ -19,33 +19,11 @@ const REQUEST: &[u8] =
 const FORWARDED: &[u8] =
     b"\nC \0\0\x0c\x04\0\0\0\0\0\0\x03\0\0\0\x64\0\x06\0\0\x40\0\0\0\0\x04\x01\0\0\0\0\nO 1 0\nU 1 GET / HTTP/1.1\r\nhost: www.example.com\r\nvia: 2.0 h2gw\r\nconnection: close\r\n\r\n";
 
-/// What is put out where no route takes it: the settings, the acknowledgement, and the status 404.
-const NOT_FOUND: &[u8] =
-    b"\nC \0\0\x0c\x04\0\0\0\0\0\0\x03\0\0\0\x64\0\x06\0\0\x40\0\0\0\0\x04\x01\0\0\0\0\0\0\x05\x01\x05\0\0\0\x01\x8d\x0f\x0d\x01\x30";
-
-/// Responses whose length is given twice: the same one, and two.
-const SAME_LENGTHS: &[u8] = b"HTTP/1.1 200 OK\r\nContent-Length: 2\r\nContent-Length: 2\r\n\r\nhi";
-
-const TWO_LENGTHS: &[u8] = b"HTTP/1.1 200 OK\r\nContent-Length: 2\r\nContent-Length: 3\r\n\r\nhi";
-
 /// A response, and what is put out for it: its connection is closed, and its frames go back.
 const ANSWER: &[u8] = b"HTTP/1.1 200 OK\r\nContent-Length: 2\r\n\r\nhi";
 
 const FRAMES: &[u8] =
     b"\nX 1\nC \0\0\x05\x01\x04\0\0\0\x01\x88\x0f\x0d\x01\x32\0\0\x02\0\x01\0\0\0\x01hi";
-
-/// A response in chunks, cut into three pieces, and its frames.
-const CHUNKS: [&[u8]; 3] = [
-    b"HTTP/1.1 200 OK\r\nTransfer-Encoding: chunked\r\n\r\n1",
-    b"0\r\n0123456789abcdef\r\n",
-    b"0\r\n\r\n",
-];
-
-const CHUNK_FRAMES: &[u8] =
-    b"\nX 1\nC \0\0\x01\x01\x04\0\0\0\x01\x88\0\0\x10\0\x01\0\0\0\x010123456789abcdef";
-
-/// What is put out where the response is none, or is cut short: the status 502.
-const BAD_GATEWAY: &[u8] = b"\nX 1\nC \0\0\x09\x01\x05\0\0\0\x01\x08\x03502\x0f\x0d\x01\x30";
 
 /// A world in which the client goes at a turn, and nothing else comes.
 #[derive(Drop)]
@@ -107,12 +85,9 @@ fn no_routes(alloc: Global) -> Config
     ensures { IsServable (setup_of result) }
 {
     Config {
-        routes: Vec::new(alloc),
-        policy: Policy::Plain,
-        passing: Passing::Whole,
         max_body: 1,
         max_response: 1,
-        keep: false,
+        ..Config::new(Vec::new(alloc))
     }
 }
 
@@ -136,38 +111,62 @@ fn the_client_is_closed(rt: HostRuntime) -> Result<(), Fail> {
     Ok(())
 }
 
-#[test]
-fn services_take_their_turns_beside_others(rt: HostRuntime) -> Result<(), Fail> {
-    let config = no_routes(rt.alloc());
-    let mut stays = Service::new(rt.alloc(), &config)?;
-    let mut goes = Service::new(rt.alloc(), &config)?;
+/// A service takes a turn in a world that had fewer than a hundred; another world counts as one that fails.
+fn turn(service: &mut Service, world: &mut Quiet) -> Result<Option<Ended>, ServeFault> {
+    if world.turn >= 100 {
+        return Err(ServeFault::World);
+    }
+    service.take_turn(world)
+}
+
+/// Of two services that took no turn the world of the second ends, at its second turn.
+fn assert_take_turns(rt: &impl Abort, stays: &mut Service, goes: &mut Service) {
     let (mut one, mut other) = (leaving_at(9), leaving_at(1));
-    assert_eq!(rt; stays.take_turn(&mut one), Ok(None));
-    assert_eq!(rt; goes.take_turn(&mut other), Ok(None));
-    assert_eq!(rt; goes.take_turn(&mut other), Ok(Some(Ended::Closed)));
-    assert_eq!(rt; stays.take_turn(&mut one), Ok(None));
+    assert_eq!(rt; turn(stays, &mut one), Ok(None));
+    assert_eq!(rt; turn(goes, &mut other), Ok(None));
+    assert_eq!(rt; turn(goes, &mut other), Ok(Some(Ended::Closed)));
+    assert_eq!(rt; turn(stays, &mut one), Ok(None));
     // Behind its end a service answers as it did, and its world isn't asked.
-    assert_eq!(rt; goes.take_turn(&mut other), Ok(Some(Ended::Closed)));
+    assert_eq!(rt; turn(goes, &mut other), Ok(Some(Ended::Closed)));
     assert_eq!(rt; (one.turn, other.turn), (2, 2));
+}
+
+/// The same of a service that took no turn, and one that begins here.
+fn assert_take_turns_beside(
+    rt: &impl Abort,
+    alloc: Global,
+    stays: &mut Service,
+) -> Result<(), AllocError> {
+    let mut goes = Service::new(alloc, &no_routes(alloc))?;
+    assert_take_turns(rt, stays, &mut goes);
     Ok(())
 }
 
-/// A configuration with one route, for an authority.
-fn one_route(alloc: Global, authority: &[u8]) -> Result<Config, AllocError>
+/// Two services that begin here take their turns.
+fn assert_both_take_turns(rt: &impl Abort, alloc: Global) -> Result<(), AllocError> {
+    let mut stays = Service::new(alloc, &no_routes(alloc))?;
+    assert_take_turns_beside(rt, alloc, &mut stays)
+}
+
+#[test]
+fn services_take_their_turns_beside_others(rt: HostRuntime) -> Result<(), Fail> {
+    assert_both_take_turns(&rt, rt.alloc())?;
+    Ok(())
+}
+
+/// A configuration with one route, for each request.
+fn one_route(alloc: Global) -> Result<Config, AllocError>
     ensures { IfOk result (λ config. IsServable (setup_of config)) }
 {
     let route = Route {
-        authority: Vec::from_slice(alloc, authority)?,
+        authority: Vec::new(alloc),
         prefix: Vec::from_slice(alloc, b"/")?,
         upstream: String::new(alloc),
     };
     Ok(Config {
-        routes: vec![in alloc; route]?,
-        policy: Policy::Plain,
-        passing: Passing::Whole,
         max_body: 1000,
         max_response: 2000,
-        keep: false,
+        ..Config::new(vec![in alloc; route]?)
     })
 }
 
@@ -195,7 +194,7 @@ fn opened_in_turn(alloc: Global, config: &Config, world: &mut MemoryWorld) -> Re
 
 #[test]
 fn a_service_counts_opened_streams(rt: HostRuntime) -> Result<(), Fail> {
-    let config = one_route(rt.alloc(), b"")?;
+    let config = one_route(rt.alloc())?;
     let mut world = MemoryWorld::new(rt.alloc(), exchange(rt.alloc(), &[])?, None);
     assert_eq!(rt; opened_in_turn(rt.alloc(), &config, &mut world)?, 1);
     Ok(())
@@ -262,76 +261,22 @@ fn log_text(alloc: Global, log: &[(Event, Vec<Output>)]) -> io::Result<Vec<u8>> 
     Ok(text)
 }
 
-/// How serving a world, of which nothing was asked yet, by one route for this authority ends, within nine turns.
+/// How serving a world, of which nothing was asked yet, by one route ends, within nine turns.
 fn served_world(
     alloc: Global,
-    authority: &[u8],
     world: &mut MemoryWorld,
 ) -> Result<Result<Ended, ServeFault>, AllocError>
     requires { (world.old.calls ≡ 0) × (world.old.failures ≡ 0) }
 {
-    let config = one_route(alloc, authority)?;
+    let config = one_route(alloc)?;
     Ok(serve(alloc, &config, world, 9))
 }
 
 /// How serving a world that gives these events ends, and what is put out.
-fn served(
-    alloc: Global,
-    authority: &[u8],
-    events: Vec<Event>,
-) -> Result<(Result<Ended, ServeFault>, Vec<u8>), Fail> {
+fn served(alloc: Global, events: Vec<Event>) -> Result<(Result<Ended, ServeFault>, Vec<u8>), Fail> {
     let mut world = MemoryWorld::new(alloc, events, None);
-    let ended = served_world(alloc, authority, &mut world)?;
+    let ended = served_world(alloc, &mut world)?;
     Ok((ended, text_of(alloc, world.log())?))
-}
-
-/// Serving a world that gives these events until nothing comes any more puts this out for the request, and this for what comes then.
-fn assert_puts_out(
-    rt: &impl Abort,
-    alloc: Global,
-    events: Vec<Event>,
-    behind: &[u8],
-) -> Result<(), Fail> {
-    let (ended, text) = served(alloc, b"", events)?;
-    assert_eq!(rt; ended, Ok(Ended::Over));
-    let (first, rest) = text.split_at(FORWARDED.len().min(text.len()));
-    assert_eq!(rt; first, FORWARDED);
-    assert_eq!(rt; rest, behind);
-    Ok(())
-}
-
-/// What is put out where the first upstream sends these pieces.
-fn assert_answered(
-    rt: &impl Abort,
-    alloc: Global,
-    pieces: &[&[u8]],
-    behind: &[u8],
-) -> Result<(), Fail> {
-    assert_puts_out(rt, alloc, exchange(alloc, pieces)?, behind)
-}
-
-#[test]
-fn responses_go_back_once_they_are_whole(rt: HostRuntime) -> Result<(), Fail> {
-    let answers: [(&[&[u8]], &[u8]); 7] = [
-        (&[], b""),
-        (&[ANSWER], FRAMES),
-        (&[SAME_LENGTHS], FRAMES),
-        (&[TWO_LENGTHS], BAD_GATEWAY),
-        (&[b"junk"], BAD_GATEWAY),
-        (&CHUNKS, CHUNK_FRAMES),
-        (&CHUNKS[..2], b""),
-    ];
-    for (pieces, behind) in &answers {
-        assert_answered(&rt, rt.alloc(), pieces, behind)?;
-    }
-    Ok(())
-}
-
-#[test]
-fn a_response_that_ends_short_is_a_bad_gateway(rt: HostRuntime) -> Result<(), Fail> {
-    let mut short = exchange(rt.alloc(), &CHUNKS[..2])?;
-    short.push(Event::UpEnd(1))?;
-    assert_puts_out(&rt, rt.alloc(), short, BAD_GATEWAY)
 }
 
 /// What is handed at each turn of an exchange: how many events had come, and the rooms.
@@ -350,17 +295,8 @@ fn assert_handed(rt: &impl Abort, handed: &[(usize, Vec<(u32, usize)>)]) {
 fn each_turn_is_handed_the_open_connections(rt: HostRuntime) -> Result<(), Fail> {
     let alloc = rt.alloc();
     let mut world = MemoryWorld::new(alloc, exchange(alloc, &[ANSWER])?, None);
-    assert_eq!(rt; served_world(alloc, b"", &mut world)?, Ok(Ended::Over));
+    assert_eq!(rt; served_world(alloc, &mut world)?, Ok(Ended::Over));
     assert_handed(&rt, world.handed());
-    Ok(())
-}
-
-#[test]
-fn no_route_takes_the_request(rt: HostRuntime) -> Result<(), Fail> {
-    let alloc = rt.alloc();
-    let (ended, text) = served(alloc, b"a.example", exchange(alloc, &[])?)?;
-    assert_eq!(rt; ended, Ok(Ended::Over));
-    assert_eq!(rt; text.as_slice(), NOT_FOUND);
     Ok(())
 }
 
@@ -369,7 +305,7 @@ fn an_event_that_may_not_come_is_left_alone(rt: HostRuntime) -> Result<(), Fail>
     let alloc = rt.alloc();
     let mut events = exchange(alloc, &[ANSWER])?;
     events.push(Event::UpEnd(1))?;
-    let (ended, text) = served(alloc, b"", events)?;
+    let (ended, text) = served(alloc, events)?;
     assert_eq!(rt; ended, Err(ServeFault::NotAdmitted(Peer::Upstream(1))));
     let (first, rest) = text.split_at(FORWARDED.len().min(text.len()));
     assert_eq!(rt; first, FORWARDED);
@@ -386,7 +322,7 @@ fn served_failing(
     fail_at: u64,
 ) -> Result<(Result<Ended, ServeFault>, Vec<u8>), Fail> {
     let mut world = MemoryWorld::new(alloc, exchange(alloc, &[ANSWER])?, Some(fail_at));
-    let ended = served_world(alloc, b"", &mut world)?;
+    let ended = served_world(alloc, &mut world)?;
     Ok((ended, log_text(alloc, world.log())?))
 }
 

@@ -11,7 +11,7 @@ ghost use Rattle.scripts.specs.Stops.{Explains};
 use crate::printing::print_steps;
 use crate::scripts::{ScriptFault, read_script};
 use configuration::{ConfigFault, read_config};
-use gateway::{Config, Passing, Policy, Route, RunFault};
+use gateway::{Config, Route, RunFault};
 use std::alloc::{AllocError, Global};
 use std::io;
 use std::io::Write;
@@ -177,12 +177,5 @@ fn default_config(alloc: Global) -> Result<Config, AllocError>
         prefix: Vec::from_slice(alloc, b"/")?,
         upstream: String::new(alloc),
     };
-    Ok(Config {
-        routes: vec![in alloc; route]?,
-        policy: Policy::Plain,
-        passing: Passing::Whole,
-        max_body: 1048576,
-        max_response: 1048576,
-        keep: false,
-    })
+    Ok(Config::new(vec![in alloc; route]?))
 }

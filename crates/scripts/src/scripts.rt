@@ -8,13 +8,16 @@ ghost use Rattle.gateway.specs.Views.{event_of};
 use crate::lines::{LineFault, first_line, read_line};
 use gateway::Event;
 use std::alloc::Global;
+use thiserror::Error;
 
 /// Why a script can't be run.
-#[derive(Clone, Copy, Debug, PartialEq, Eq)]
+#[derive(Clone, Copy, Debug, PartialEq, Eq, Drop, Error)]
 pub enum ScriptFault {
     /// The line at this place, from 1, is the first that says nothing.
+    #[error("line {0}: not a line")]
     NotALine(usize),
     /// No memory was left.
+    #[error("no memory")]
     Memory,
 }
 

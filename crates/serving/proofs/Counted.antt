@@ -8,7 +8,8 @@ use Rattle.model.specs.Tapes.{Entry}
 use Rattle.model.specs.Openings.{Opened, exchanges, exchange_on}
 use Rattle.model.specs.Known.{Known}
 use Rattle.model.specs.Lifetimes.{active}
-use Rattle.model.specs.Idle.{AreDistinct, most_idle}
+use Rattle.model.specs.Idle.{AreDistinct}
+use Rattle.model.specs.Limits.{most_idle}
 use Rattle.model.proofs.DeliveryReadings.{one_connection}
 use Rattle.serving.specs.Told.{is_served}
 use Rattle.serving.specs.Lines.{Answer, Line, line_of, is_idle, idle_ones}

@@ -6,7 +6,7 @@ use Rattle.model.specs.Frames.{data_kind, headers_kind, rst_stream_kind, continu
 use Rattle.model.specs.Tapes.{Noted, Entry, sent}
 use Rattle.model.specs.Tapes.Entry.{Sent}
 use Rattle.model.specs.Decoding.{completed, begun, joined}
-use Rattle.model.specs.StreamStates.{most_streams}
+use Rattle.model.specs.Limits.{most_streams}
 use Rattle.model.specs.Known.{Known}
 use Rattle.model.specs.Lifetimes.{opened, is_opened, is_over, is_active, ends_by, is_ended_by_client, is_ended_by_gateway, is_reset_by_client, is_reset_by_gateway}
 use Rattle.model.specs.Messages.{ends_with}

@@ -15,7 +15,8 @@ use Rattle.model.specs.Available.{heard_by, ended_by}
 use Rattle.model.specs.Known.{Known}
 use Rattle.model.specs.ErrorClause.{must_end}
 use Rattle.model.specs.Courses.{upstream_of}
-use Rattle.model.specs.Idle.{is_asked_for_head, IsAllHeard, IsTooLong, LeavesOpen, MayBeKept, IsIdle, AreIdle, AreDistinct, IsOneTooMany, last_upstream, most_idle}
+use Rattle.model.specs.Idle.{is_asked_for_head, IsAllHeard, IsTooLong, LeavesOpen, MayBeKept, IsIdle, AreIdle, AreDistinct, IsOneTooMany, last_upstream}
+use Rattle.model.specs.Limits.{most_idle}
 use Rattle.serving.specs.Lines.{Answer, Line, k_of, line_of, is_idle, is_finished, idle_ones, Heard, answer_by, idle_beside, with_answer, lines_heard}
 use Rattle.serving.specs.Pool.{Verdict, Answers, IsSo, Keeps}
 use Rattle.serving.specs.Lines.Answer.{Pending, Idle, Done}

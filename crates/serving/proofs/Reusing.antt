@@ -15,7 +15,8 @@ use Rattle.model.specs.Available.{heard_by, ended_by}
 use Rattle.model.specs.Known.{Known}
 use Rattle.model.specs.Offers.{is_to_head}
 use Rattle.model.specs.ErrorClause.{must_end}
-use Rattle.model.specs.Idle.{is_asked_for_head, IsAllHeard, AreDistinct, most_idle}
+use Rattle.model.specs.Idle.{is_asked_for_head, IsAllHeard, AreDistinct}
+use Rattle.model.specs.Limits.{most_idle}
 use Rattle.model.proofs.ItemLaws.{items_stay}
 use Rattle.model.proofs.OfferLemmas.{nothing_complete}
 use Rattle.model.proofs.ExchangeLaws.{another_on, first_on, sent_beside, given_one, unheard}

@@ -9,7 +9,8 @@ use Rattle.model.specs.Openings.{Opened, exchanges, sent_for}
 use Rattle.model.specs.Available.{IsIn}
 use Rattle.model.specs.Known.{Known}
 use Rattle.model.specs.Courses.{items}
-use Rattle.model.specs.ProgressClause.{HasCome, AllStreamed}
+use Rattle.model.specs.ProgressClause.{AllStreamed}
+use Rattle.model.specs.Http1.{HasCome}
 use Rattle.serving.specs.State.{State}
 use Rattle.serving.specs.State.Due.{Nothing}
 use Rattle.serving.proofs.Texts.{none_end}

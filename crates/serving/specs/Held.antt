@@ -1,7 +1,7 @@
 -- How many octets are held of requests, and how many may be.
 use Rattle.std.specs.Prelude.{◌≡◌, ℕ, ◌+◌, Bool, false, ◌==◌, if◌then◌else◌, List, [], ◌∷◌, length, Option, Some, None}
 use Rattle.model.specs.Frames.{Fits}
-use Rattle.model.specs.Causes.{largest_fields}
+use Rattle.model.specs.Limits.{largest_fields}
 use Rattle.model.specs.Tapes.{Entry}
 use Rattle.model.specs.Tapes.Entry.{Came}
 use Rattle.h1_writer.specs.Sending.{held_back, most_line}

@@ -1,6 +1,6 @@
 -- Open upstream connections as they are kept, and what becomes of them.
 use Rattle.std.specs.Prelude.{ℕ, nat_lt, Bool, true, false, not, ◌&&◌, ◌==◌, if◌then◌else◌, List, [], ◌∷◌, map, length, filter, Option, Some, None}
-use Rattle.model.specs.Idle.{most_idle}
+use Rattle.model.specs.Limits.{most_idle}
 
 -- ---- lists by a number
 

@@ -5,7 +5,8 @@ use Rattle.model.specs.Admission.{is_open}
 use Rattle.model.specs.Openings.{Opened, exchanges, exchange_on, route_of, given}
 use Rattle.model.specs.Known.{Known}
 use Rattle.model.specs.ErrorClause.{must_end}
-use Rattle.model.specs.Idle.{IsAllHeard, MayBeKept, IsOneTooMany, AreDistinct, most_idle}
+use Rattle.model.specs.Idle.{IsAllHeard, MayBeKept, IsOneTooMany, AreDistinct}
+use Rattle.model.specs.Limits.{most_idle}
 use Rattle.serving.specs.Lines.{Answer, Line, line_of, idle_ones, Heard}
 use Rattle.serving.specs.Lines.Answer.{Pending, Idle, Done}
 use Rattle.serving.specs.Lines.Heard.{Partly, Keepable, Finished}

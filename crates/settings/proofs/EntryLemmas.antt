@@ -3,7 +3,7 @@ use Rattle.std.proofs.Common.{◌≡◌, ℕ, ◌+◌, ◌*◌, ◌-◌, ◌≤�
 use Rattle.std.proofs.lemmas.List.{take_rest}
 use Rattle.std.specs.Prelude.{Option, Some, None, IfSome, true, false, cond, ◌==◌, map, unwrap_or}
 use Rattle.std.specs.List.{last_or, filter}
-use Rattle.model.specs.Windows.{greatest_window}
+use Rattle.model.specs.Limits.{greatest_window}
 use Rattle.model.specs.SettingValues.{Setting, SettingsFault, settings_in, fault_of_setting, first_of_faults, first_fault, values_of, last_value, initial_window_size}
 
 -- the entry in the first six octets

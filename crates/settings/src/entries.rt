@@ -8,23 +8,8 @@ ghost use Rattle.settings.specs.Accumulated.{smallest_with};
 ghost use Rattle.settings.specs.Views.{setting_of, fault_of, IsFirstEntry};
 
 use crate::SettingFault;
-
-/// The identifiers of the settings that are used here (RFC 9113, section 6.5.2).
-const HEADER_TABLE_SIZE: u16 = 1;
-
-const ENABLE_PUSH: u16 = 2;
-
-const INITIAL_WINDOW_SIZE: u16 = 4;
-
-const MAX_FRAME_SIZE: u16 = 5;
-
-/// The greatest size that a window may have (RFC 9113, section 6.9.1).
-const GREATEST_WINDOW: u32 = 2147483647;
-
-/// The least and the greatest MAX_FRAME_SIZE (RFC 9113, section 6.5.2).
-const LEAST_FRAME: u32 = 16384;
-
-const GREATEST_FRAME: u32 = 16777215;
+use protocol::limits::{GREATEST_FRAME_SIZE, GREATEST_WINDOW, LEAST_FRAME_SIZE};
+use protocol::setting_ids::{ENABLE_PUSH, HEADER_TABLE_SIZE, INITIAL_WINDOW_SIZE, MAX_FRAME_SIZE};
 
 /// An entry: a setting and its value.
 #[derive(Clone, Copy, Debug, PartialEq, Eq)]
@@ -64,7 +49,9 @@ fn fault_in(entry: Entry) -> Option<SettingFault>
     if identifier == INITIAL_WINDOW_SIZE && value > GREATEST_WINDOW {
         return Some(SettingFault::Window);
     }
-    if identifier == MAX_FRAME_SIZE && !(LEAST_FRAME <= value && value <= GREATEST_FRAME) {
+    if identifier == MAX_FRAME_SIZE
+        && !(LEAST_FRAME_SIZE <= value && value <= GREATEST_FRAME_SIZE)
+    {
         return Some(SettingFault::FrameSize);
     }
     None

@@ -2,20 +2,17 @@
 #![tactic(auto)]
 
 ghost use Rattle.std.specs.Prelude.{◌≡◌, ◌≤◌, Some, None, IfOk, IfErr, OnOk, OnErr};
-ghost use Rattle.model.specs.Windows.{greatest_window, IsSize, size_difference};
+ghost use Rattle.model.specs.Windows.{IsSize, size_difference};
+ghost use Rattle.model.specs.Limits.{greatest_window};
 ghost use Rattle.model.specs.SettingValues.{settings_in, settings_fault};
 
 mod entries;
 pub mod laws;
 
 use crate::entries::{first_fault, values_in};
+use protocol::lengths;
+use protocol::limits::FIRST_WINDOW;
 use std::marker::Model;
-
-/// The octets of one entry: its identifier in two, and its value in four (RFC 9113, section 6.5.1).
-const ENTRY: usize = 6;
-
-/// The first size of windows while no setting says otherwise (RFC 9113, section 6.9.2).
-const FIRST_WINDOW: u32 = 65535;
 
 /// What is wrong with a SETTINGS payload (RFC 9113, section 6.5).
 #[derive(Clone, Copy, Debug, PartialEq, Eq)]
@@ -58,7 +55,7 @@ pub struct Settings {
 
 impl Model for Settings {
     ghost use Rattle.std.specs.Prelude.{ℕ, ◌≤◌};
-    ghost use Rattle.model.specs.Windows.{greatest_window};
+    ghost use Rattle.model.specs.Limits.{greatest_window};
 
     ghost Value = { ℕ };
 
@@ -96,7 +93,7 @@ impl Settings {
         ensures small { IfOk result (λ checked. IsSize checked.change.difference) }
         ensures refused { IfErr result (λ fault. settings_fault payload.now ≡ Some (fault_of fault)) }
     {
-        if payload.len() % ENTRY != 0 {
+        if payload.len() % lengths::SETTING != 0 {
             return Err(SettingFault::Size);
         }
         if let Some(fault) = first_fault(payload) {

@@ -3,6 +3,7 @@ use Rattle.std.specs.Prelude.{◌≡◌, ◌==◌, ◌&&◌, ◌⊎◌, Bool, tr
 use Rattle.std.specs.declared.time.Instant.{Instant}
 use Rattle.sockets.specs.Leaving.{time_left}
 use Rattle.sockets.specs.declared.side.Side.{Side}
+use Rattle.sockets.specs.declared.leaving.Leaving.{Leaving}
 use Rattle.sockets.specs.declared.departure.Departure.{Departure}
 
 -- A client begins to be left now: what waits for it waits still.
@@ -13,6 +14,9 @@ departing now client = record { client = client; leaving = record { waiting = le
 abbrev pub is_left : {S : Type 0} → Side S → Bool
 is_left client = (length client.out.waiting == 0) && client.ended
 
--- So it is with the client, or it was waited for long enough.
-abbrev pub IsOver : {S : Type 0} → Departure S → Type 0
-IsOver departure = (is_left departure.client ≡ true) ⊎ ((now : Instant) × (time_left now departure.leaving ≡ 0))
+-- So it is with the client, or by now it was waited for long enough.
+abbrev pub IsOverBy : {S : Type 0} → Instant → Side S → Leaving → Type 0
+IsOverBy now client leaving = (is_left client ≡ true) ⊎ (time_left now leaving ≡ 0)
+
+abbrev pub IsOver : {S : Type 0} → Instant → Departure S → Type 0
+IsOver now departure = IsOverBy now departure.client departure.leaving

@@ -6,3 +6,4 @@ pub mod Leaving
 pub mod Queues
 pub mod Tokens
 pub mod Departing
+pub mod Noting

@@ -18,6 +18,10 @@ token_number client number = client * 2 ^ 32 + number
 abbrev pub number_reported : Event → ℕ
 number_reported report = (event_token report).0 % 2 ^ 32
 
--- The report isn't of a socket of the client with this number.
+-- The report is of a socket of the client with this number.
+abbrev pub IsOfClient : Event → ℕ → Type 0
+IsOfClient report number = (event_token report).0 / 2 ^ 32 ≡ number
+
+-- It isn't.
 abbrev pub IsOfAnother : Event → ℕ → Type 0
-IsOfAnother report number = (event_token report).0 / 2 ^ 32 ≡ number → ⊥
+IsOfAnother report number = IsOfClient report number → ⊥

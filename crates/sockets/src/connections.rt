@@ -2,13 +2,14 @@
 
 ghost use Rattle.std.specs.Prelude.{◌≡◌, ◌+◌, ◌<◌, ℕ, None, Option, Some, Ok, Err, [], false, true, List, IfSome, IfOk, IsOkAnd, OnOk, OnErr, ◌&&◌, ◌||◌, not, slice_get};
 ghost use Rattle.sockets.specs.Performed.{AreRising, IsOpenNowhere, Opens, Changes, SendsTo, Performs, Leaves, MovesOn, Fits, client_heard, got_news, IsWithin, is_failed};
-ghost use Rattle.sockets.specs.Tokens.{number_of_client, token_number, IsOfAnother};
+ghost use Rattle.sockets.specs.Noting.{Notes};
+ghost use Rattle.sockets.specs.Tokens.{number_of_client, token_number, IsOfAnother, IsOfClient};
 ghost use Rattle.sockets.specs.Queues.{Grows, IsClientListed, HasQueued, HadQueued, OpensAnew, client_last, is_behind};
-ghost use Rattle.sockets.specs.Sides.{no_news, lost_news, IsBegun, IsNew, Goes, SendsFront, may_go_on, may_be_ready, may_read};
+ghost use Rattle.sockets.specs.Sides.{no_news, lost_news, noted, IsBegun, IsNew, Goes, KeepsHeard, SendsFront, may_go_on, may_be_ready, may_read};
 ghost use Rattle.std.specs.List.{Contains};
 
 use crate::buffer::Buffer;
-use crate::departure::{drop_piece, write_rest};
+use crate::departure::leave_on;
 use crate::leaving::Leaving;
 use crate::queues::{heed, heed_all, join_ready, list, place_of};
 use crate::reporting::{Reporting, number_in};
@@ -19,6 +20,7 @@ use crate::wire::Wire;
 use gateway::{Event, Output};
 use mio::Events;
 use mio::event::Event as Report;
+use protocol::limits::GREATEST_UNTAKEN;
 use std::alloc::Global;
 use std::collections::VecDeque;
 use std::io;
@@ -27,9 +29,6 @@ use std::net::{Net, SocketAddr};
 use std::time::{Clock, Duration, Instant};
 use transfers::{Got, PutFault};
 use worlds::WorldFault;
-
-/// While more octets than this for the client weren't told of as taken, nothing of it is read.
-const MOST_OWED: u64 = 1073741824;
 
 /// From so many octets for the client on that wait they are written at once, and else before the world waits.
 const WRITTEN_AT_ONCE: usize = 32768;
@@ -278,7 +277,7 @@ impl<'a, N: Net + Clock, S: Wire> Sockets<'a, N, S> {
     fn may_read_client(&self) -> bool
         ensures { result ≡ may_read 1073741824 self.now.client }
     {
-        self.client.is_readable() && !self.client.owes_more_than(MOST_OWED)
+        self.client.is_readable() && !self.client.owes_more_than(GREATEST_UNTAKEN)
     }
 
     /// The client joins the sockets of which something may be read, if something may.
@@ -372,6 +371,7 @@ impl<'a, N: Net + Clock, S: Wire> Sockets<'a, N, S> {
     /// Notes what was reported of one socket, and writes what waits for it, if it takes octets again; what isn't of this client's is none of its.
     pub(crate) fn hear(&mut self, report: &Report) -> Result<(), WorldFault>
         ensures others { IsOfAnother report.now (number_of_client self.old.reporting) → (result ≡ Ok tt) × (self.new ≡ self.old) }
+        ensures noted { IsOfClient report.now (number_of_client self.old.reporting) → Notes report.now self.old.client self.old.upstreams.items self.new.client self.new.upstreams.items }
         ensures rising { AreRising self.old.upstreams.items → AreRising self.new.upstreams.items }
         ensures moves { MovesOn S.left S.held (Ok None) self.old.client self.old.upstreams.items self.new.client self.new.upstreams.items }
         ensures queued { OnOk result (HasQueued self.old → HasQueued self.new) }
@@ -394,6 +394,7 @@ impl<'a, N: Net + Clock, S: Wire> Sockets<'a, N, S> {
     /// Notes what was reported of the client's socket, and writes what waits for it, if it takes octets again.
     fn hear_of_client(&mut self, report: &Report) -> Result<(), WorldFault>
         ensures upstreams { self.new.upstreams ≡ self.old.upstreams }
+        ensures noted { KeepsHeard (Some (noted report.now self.old.client)) (Some self.new.client) }
         ensures moves { MovesOn S.left S.held (Ok None) self.old.client self.old.upstreams.items self.new.client self.new.upstreams.items }
         ensures queued { OnOk result (HasQueued self.old → HasQueued self.new) }
     {
@@ -410,46 +411,36 @@ impl<'a, N: Net + Clock, S: Wire> Sockets<'a, N, S> {
         self.upstreams.clear();
         let mut leaving = Leaving::begin(Instant::now(self.net)?, self.client.waiting());
         for _ in 0..MOST_TURNS_LEAVING {
-            if self.write_rest(&mut leaving)? {
+            if self.leave_on(&mut leaving)? {
                 return Ok(());
             }
-            let Some(most) = leaving.remaining(Instant::now(self.net)?) else {
-                return Ok(());
-            };
-            self.drop_rest(&mut leaving, most)?;
         }
         Ok(())
     }
 
-    /// Writes what waits for the client, and tells it that nothing more is written once nothing waits. The answer is whether it is left: all is written, and
-    /// its end was read.
-    fn write_rest(&mut self, leaving: &mut Leaving) -> io::Result<bool>
+    /// Goes on leaving the client as a `Departure` does, and then waits until something of it is there, if nothing is. The answer is whether it is left.
+    fn leave_on(&mut self, leaving: &mut Leaving) -> io::Result<bool>
         ensures upstreams { self.new.upstreams ≡ self.old.upstreams }
         ensures client { Goes S.left S.held lost_news self.old.client self.new.client }
     {
-        write_rest(
-            &mut self.client,
-            leaving,
-            self.reporting.registry(),
-            Instant::now(self.net)?,
-        )
-    }
-
-    /// Reads and drops what comes of the client, or waits for it, at most so long.
-    fn drop_rest(&mut self, leaving: &mut Leaving, most: Duration) -> io::Result<()>
-        ensures upstreams { self.new.upstreams ≡ self.old.upstreams }
-        ensures client { Goes S.left S.held lost_news self.old.client self.new.client }
-    {
-        if !self.client.is_readable() {
-            return self.hear_client(most);
-        }
-        drop_piece(
+        let now = Instant::now(self.net)?;
+        let registry = self.reporting.registry();
+        let most = leave_on(
             self.alloc,
-            self.net,
+            now,
+            registry,
             &mut self.client,
             leaving,
             &mut self.buffer,
-        )
+        )?;
+        match most {
+            None => Ok(true),
+            Some(most) if most.is_zero() => Ok(false),
+            Some(most) => {
+                self.hear_client(most)?;
+                Ok(false)
+            }
+        }
     }
 
     /// Waits until the client's socket is reported, at most so long, and notes what is. A world that is told what is reported doesn't wait.

@@ -1,7 +1,7 @@
 //! A client that is being left.
 
 ghost use Rattle.std.specs.Prelude.{◌≡◌, ◌==◌, IfOk, IfNone, if◌then◌else◌};
-ghost use Rattle.sockets.specs.Departing.{departing, is_left, IsOver};
+ghost use Rattle.sockets.specs.Departing.{departing, is_left, IsOver, IsOverBy};
 ghost use Rattle.sockets.specs.Sides.{lost_news, noted, Goes};
 ghost use Rattle.sockets.specs.Tokens.{number_reported};
 
@@ -14,7 +14,7 @@ use mio::Registry;
 use mio::event::Event as Report;
 use std::alloc::Global;
 use std::io;
-use std::time::{Clock, Duration, Instant};
+use std::time::{Duration, Instant};
 
 /// A client that is being left beside others: its socket, and how long it is waited for.
 #[derive(Drop)]
@@ -43,40 +43,57 @@ impl<S: Wire> Departure<S> {
 
     /// Goes on without waiting: writes what its socket takes of what waits for it, tells it that nothing more is written once nothing waits, and reads and drops what is there, in one
     /// read. The answer is how long it is waited for yet, where nothing is reported of it, or nothing where it is left: its end was read behind all, or it was
-    /// waited for long enough. An error is the socket's or the clock's, or says that memory was refused: then it is left too.
-    pub fn go_on<C: Clock>(
+    /// waited for long enough by now. An error is the socket's, or says that memory was refused: then it is left too.
+    pub fn go_on(
         &mut self,
         alloc: Global,
-        clock: &C,
+        now: Instant,
         registry: &Registry,
         buffer: &mut Buffer,
     ) -> io::Result<Option<Duration>>
         ensures goes { Goes S.left S.held lost_news self.old.client self.new.client }
-        ensures left { IfOk result (λ most. IfNone most (IsOver self.new)) }
+        ensures left { IfOk result (λ most. IfNone most (IsOver now self.new)) }
     {
-        if write_rest(
+        leave_on(
+            alloc,
+            now,
+            registry,
             &mut self.client,
             &mut self.leaving,
-            registry,
-            Instant::now(clock)?,
-        )? {
-            return Ok(None);
-        }
-        let Some(most) = self.leaving.remaining(Instant::now(clock)?) else {
-            return Ok(None);
-        };
-        if !self.client.is_readable() {
-            return Ok(Some(most));
-        }
-        drop_piece(alloc, clock, &mut self.client, &mut self.leaving, buffer)?;
-        Ok(Some(Duration::ZERO))
+            buffer,
+        )
     }
 }
 
-/// Reads and drops what is there of a client, in one read.
-pub fn drop_piece<S: Wire, C: Clock>(
+/// Goes on leaving a client without waiting, as `Departure::go_on` does, and `SocketWorld::finish` between its waits.
+pub fn leave_on<S: Wire>(
     alloc: Global,
-    clock: &C,
+    now: Instant,
+    registry: &Registry,
+    client: &mut Side<S>,
+    leaving: &mut Leaving,
+    buffer: &mut Buffer,
+) -> io::Result<Option<Duration>>
+    ensures goes { Goes S.left S.held lost_news client.old client.new }
+    ensures left { IfOk result (λ most. IfNone most (IsOverBy now client.new leaving.new)) }
+{
+    if write_rest(client, leaving, registry, now)? {
+        return Ok(None);
+    }
+    let Some(most) = leaving.remaining(now) else {
+        return Ok(None);
+    };
+    if !client.is_readable() {
+        return Ok(Some(most));
+    }
+    drop_piece(alloc, now, client, leaving, buffer)?;
+    Ok(Some(Duration::ZERO))
+}
+
+/// Reads and drops what is there of a client, in one read, now.
+fn drop_piece<S: Wire>(
+    alloc: Global,
+    now: Instant,
     client: &mut Side<S>,
     leaving: &mut Leaving,
     buffer: &mut Buffer,
@@ -84,13 +101,13 @@ pub fn drop_piece<S: Wire, C: Clock>(
     ensures { Goes S.left S.held lost_news client.old client.new }
 {
     let _ = buffer.read(alloc, client)?;
-    leaving.note_heard(Instant::now(clock)?);
+    leaving.note_heard(now);
     Ok(())
 }
 
 /// Writes what a client's socket takes of what waits for it, and tells it that nothing more is written once nothing waits. The answer is whether it is left: all is written,
 /// and its end was read.
-pub fn write_rest<S: Wire>(
+fn write_rest<S: Wire>(
     client: &mut Side<S>,
     leaving: &mut Leaving,
     registry: &Registry,

@@ -2,6 +2,7 @@
 
 ghost use Rattle.std.specs.Prelude.{◌≡◌, ◌<◌, Option, Some, Ok, true, length, IfSome, IfNone, OnOk, get_or};
 ghost use Rattle.sockets.specs.Performed.{AreRising, IsOpenNowhere, AllGoOn};
+ghost use Rattle.sockets.specs.Noting.{NotesOne};
 ghost use Rattle.sockets.specs.Queues.{Grows, IsMarked, IsListed, AllListed};
 ghost use Rattle.sockets.specs.Sides.{no_news, may_be_ready, owes};
 ghost use Rattle.std.specs.List.{Contains};
@@ -10,7 +11,7 @@ use crate::reporting::number_in;
 use crate::upstream::Upstream;
 use crate::wire::Wire;
 use mio::event::Event as Report;
-use mio::{Events, Registry, Token};
+use mio::{Events, Registry};
 use std::collections::VecDeque;
 use worlds::WorldFault;
 
@@ -23,13 +24,6 @@ pub(crate) fn place_of<S>(k: u32, upstreams: &[Upstream<S>]) -> Option<usize>
     upstreams
         .binary_search_by_key(&k, |upstream| upstream.k)
         .ok()
-}
-
-/// The place of the connection that is reported under a token, if it is open.
-fn place_under<S>(token: Token, upstreams: &[Upstream<S>]) -> Option<usize>
-    ensures { IfSome result (λ place. place < length upstreams.now) }
-{
-    place_of(number_in(token), upstreams)
 }
 
 /// Notes what was reported of upstreams, and writes what waits for those that take octets again.
@@ -59,10 +53,11 @@ pub(crate) fn heed<S: Wire>(
     writes: &mut VecDeque<u32>,
 ) -> Result<(), WorldFault>
     ensures goes { AllGoOn S.left S.held no_news upstreams.old.items upstreams.new.items }
+    ensures noted { AreRising upstreams.old.items → NotesOne report.now upstreams.old.items upstreams.new.items }
     ensures ready { Grows ready.old.items ready.new.items }
     ensures listed { OnOk result (AllListed 0 ready.old.items writes.old.items upstreams.old.items → AllListed 0 ready.new.items writes.new.items upstreams.new.items) }
 {
-    let Some(place) = place_under(report.token(), upstreams) else {
+    let Some(place) = place_of(number_in(report.token()), upstreams) else {
         return Ok(());
     };
     let upstream = &mut upstreams[place];

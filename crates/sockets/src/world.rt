@@ -6,7 +6,8 @@ ghost use Rattle.outputs.specs.Views.{output_of};
 ghost use Rattle.worlds.specs.Worlds.{AddsEvent, AddsHanded, KeepsRooms, SaysOver, with_outputs};
 ghost use Rattle.sockets.specs.Performed.{AreRising, Performs, Leaves, MovesOn, Fits, told_by, tells_of_client, is_nothing, moves_client, no_log, none_handed};
 ghost use Rattle.sockets.specs.Departing.{departing};
-ghost use Rattle.sockets.specs.Tokens.{number_of_client, token_number, IsOfAnother};
+ghost use Rattle.sockets.specs.Noting.{Notes};
+ghost use Rattle.sockets.specs.Tokens.{number_of_client, token_number, IsOfAnother, IsOfClient};
 ghost use Rattle.sockets.specs.Queues.{HasQueued, OpensAnew, client_last, is_behind};
 ghost use Rattle.sockets.specs.Sides.{no_news, lost_news, IsBegun, Goes};
 
@@ -60,8 +61,8 @@ impl<'a, N: Net + Clock, S: Wire> SocketWorld<'a, N, S> {
         Ok(SocketWorld::of(sockets))
     }
 
-    /// Such a world under a reactor with these sources, among whose clients it has this number, which is above 0. Until it is lent a buffer (`swap_buffer`) it makes one
-    /// as it needs it.
+    /// Such a world under a reactor with these sources, among whose clients it has this number. A world alone has the number 0; so may its reactor's listener, to which a caller then gives no client.
+    /// Until it is lent a buffer (`swap_buffer`) it makes one as it needs it.
     pub fn under(
         alloc: Global,
         net: &'a N,
@@ -154,6 +155,7 @@ impl<'a, N: Net + Clock, S: Wire> SocketWorld<'a, N, S> {
         ensures others { IsOfAnother report.now (number_of_client self.old.sockets.reporting) → (result ≡ Ok tt) × (self.new.sockets ≡ self.old.sockets) }
         ensures calls { self.new.calls ≡ self.old.calls }
         ensures failures { self.new.failures ≡ self.old.failures }
+        ensures noted { IsOfClient report.now (number_of_client self.old.sockets.reporting) → Notes report.now self.old.sockets.client self.old.sockets.upstreams.items self.new.sockets.client self.new.sockets.upstreams.items }
         ensures rising { AreRising self.old.sockets.upstreams.items → AreRising self.new.sockets.upstreams.items }
         ensures moves { MovesOn S.left S.held (Ok None) self.old.sockets.client self.old.sockets.upstreams.items self.new.sockets.client self.new.sockets.upstreams.items }
         ensures queued { OnOk result (HasQueued self.old.sockets → HasQueued self.new.sockets) }

@@ -4,7 +4,7 @@ ghost use Rattle.std.specs.Prelude.{IfOk};
 ghost use Rattle.gateway.specs.Setups.{setup_of, IsServable};
 
 use crate::loopback::{pair, quiet_listener};
-use gateway::{Config, Output, Passing, Policy, Route};
+use gateway::{Config, Output, Passing, Route};
 use sockets::SocketWorld;
 use std::alloc::{AllocError, Global};
 use std::io;
@@ -232,12 +232,10 @@ fn config_of(alloc: Global, passing: Passing) -> Result<Config, AllocError>
         upstream: String::new(alloc),
     };
     Ok(Config {
-        routes: vec![in alloc; route]?,
-        policy: Policy::Plain,
         passing,
         max_body: 100_000,
         max_response: 100_000,
-        keep: false,
+        ..Config::new(vec![in alloc; route]?)
     })
 }
 

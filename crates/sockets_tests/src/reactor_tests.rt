@@ -133,7 +133,7 @@ fn leave(
     let mut has_ended = false;
     for round in 0u32..100_000 {
         if departure
-            .go_on(rt.alloc(), rt, sources, &mut buffer)?
+            .go_on(rt.alloc(), Instant::now(rt)?, sources, &mut buffer)?
             .is_none()
         {
             return Ok(round);
@@ -193,7 +193,7 @@ fn a_client_that_is_left_is_waited_for_as_long(rt: HostRuntime) -> Result<(), Fa
     let (_far, world) = told(&rt, &sources, 1)?;
     let mut departure = world.leave(Instant::now(&rt)?);
     let mut buffer = Buffer::new(rt.alloc());
-    let most = departure.go_on(rt.alloc(), &rt, &sources, &mut buffer)?;
+    let most = departure.go_on(rt.alloc(), Instant::now(&rt)?, &sources, &mut buffer)?;
     // Five seconds, since nothing waits for it and it says nothing.
     assert!(rt;
         matches!(most, Some(most) if most > Duration::from_secs(4) && most <= Duration::from_secs(5))

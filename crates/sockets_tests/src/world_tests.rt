@@ -4,7 +4,7 @@ ghost use Rattle.std.specs.Prelude.{IfOk};
 ghost use Rattle.gateway.specs.Setups.{setup_of, IsServable};
 
 use crate::loopback::{pair, quiet_listener};
-use gateway::{Config, Event, Output, Passing, Policy, Route};
+use gateway::{Config, Event, Output, Route};
 use sockets::SocketWorld;
 use std::alloc::{AllocError, Global};
 use std::io::{ErrorKind, Read, Write};
@@ -211,12 +211,9 @@ fn route_of(alloc: Global, authority: &[u8]) -> Result<Config, AllocError>
         upstream: String::new(alloc),
     };
     Ok(Config {
-        routes: vec![in alloc; route]?,
-        policy: Policy::Plain,
-        passing: Passing::Whole,
         max_body: 1,
         max_response: 1000,
-        keep: false,
+        ..Config::new(vec![in alloc; route]?)
     })
 }
 

@@ -1,7 +1,7 @@
 -- The connection ends in place of a frame, since too many octets for the client are untaken: this comes by the rule.
 use Rattle.std.proofs.Common.{◌≡◌, ℕ, nat_lt, List, [], ◌∷◌, ◌++◌, reverse, None, refl, sym, ◌∙◌, ap, subst, append_assoc, arith}
 use Rattle.std.proofs.lemmas.Bool.{ltb-true}
-use Rattle.model.specs.Admission.{most_untaken}
+use Rattle.model.specs.Limits.{most_untaken}
 use Rattle.model.specs.Frames.{goaway, enhance_your_calm}
 use Rattle.model.specs.Logs.{Output}
 use Rattle.model.specs.Logs.Act.{CloseClient}

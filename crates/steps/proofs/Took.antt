@@ -1,7 +1,7 @@
 -- What a side took leaves the gateway at rest, and nothing is put out for it.
 use Rattle.std.proofs.Common.{◌≡◌, ℕ, ◌<◌, ◌-◌, ◌||◌, List, [], ◌∷◌, map, Some, refl, ap, ◌∙◌}
 use Rattle.std.specs.List.{list_any}
-use Rattle.model.specs.Admission.{high_water}
+use Rattle.model.specs.Limits.{high_water}
 use Rattle.model.specs.Logs.{Output}
 use Rattle.model.specs.Setup.{Setup}
 use Rattle.serving.specs.Lines.{Line}

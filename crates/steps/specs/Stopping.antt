@@ -1,6 +1,6 @@
 -- A step goes no further: the connection was ended in place of a frame, since too many octets for the client were untaken.
 use Rattle.std.specs.Prelude.{◌≡◌, ℕ, true, nat_lt, List, [], ◌∷◌, ◌++◌, reverse, None, Result, Ok, Err}
-use Rattle.model.specs.Admission.{most_untaken}
+use Rattle.model.specs.Limits.{most_untaken}
 use Rattle.model.specs.Frames.{goaway, enhance_your_calm}
 use Rattle.model.specs.Logs.{Output}
 use Rattle.model.specs.Logs.Act.{CloseClient}

@@ -1,12 +1,10 @@
 //! Whether too many octets for the client are untaken for a frame beside responses.
 
 ghost use Rattle.std.specs.Prelude.{◌≡◌, nat_lt};
-ghost use Rattle.model.specs.Admission.{most_untaken};
+ghost use Rattle.model.specs.Limits.{most_untaken};
 
+use protocol::limits::MOST_UNTAKEN;
 use relay::Rooms;
-
-/// While more octets for the client than these are untaken, parts of responses alone go out (this project's profile).
-const MOST_UNTAKEN: u64 = 1048576;
 
 /// Whether more are.
 pub(crate) fn is_crowded(rooms: &Rooms) -> bool

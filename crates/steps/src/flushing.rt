@@ -3,4 +3,4 @@
 mod parts;
 mod turns;
 
-pub use crate::flushing::turns::{HIGH_WATER, flush};
+pub use crate::flushing::turns::flush;

@@ -13,11 +13,11 @@ ghost use Rattle.steps.specs.Stopping.{IfOver};
 
 use crate::exchanges;
 use crate::exchanges::stream_of;
-use crate::flushing::HIGH_WATER;
 use crate::paying::{is_nothing, note_client_took, note_up_took, return_dropped, return_taken};
 use crate::resting::{Went, conclude, rest, rest_behind};
 use crate::stop::Stop;
 use outputs::Outputs;
+use protocol::limits::HIGH_WATER;
 use relay::Rooms;
 use std::alloc::{AllocError, Global};
 

@@ -11,6 +11,7 @@ ghost use Rattle.steps.specs.Leaving.{breach_of};
 
 use crate::ending::{Ending, end};
 use outputs::Outputs;
+use protocol::error_codes::{FRAME_SIZE_ERROR, PROTOCOL_ERROR};
 use relay::Rooms;
 use std::alloc::AllocError;
 
@@ -22,11 +23,6 @@ pub enum Breach {
     /// A frame is longer than 16,384 octets (RFC 9113, section 4.2).
     TooLong,
 }
-
-/// The error codes of both (RFC 9113, section 7): PROTOCOL_ERROR and FRAME_SIZE_ERROR.
-const PROTOCOL_ERROR: u32 = 1;
-
-const FRAME_SIZE_ERROR: u32 = 6;
 
 /// Ends the connection where the client's side of it ended: each connection to an upstream is closed, and the client's. An `Err` says that memory
 /// was refused.

@@ -6,11 +6,13 @@
 //! that are done with; responses.
 #![tactic(auto)]
 
+mod asking;
 pub mod block_frames;
 mod crowding;
 pub mod ending;
 pub mod exchanges;
 pub mod flushing;
+mod forgetting;
 mod hearing;
 mod leaving;
 pub mod paying;

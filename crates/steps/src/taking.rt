@@ -33,19 +33,11 @@ use answers::Passing;
 use frames::View;
 use judgement::Terms;
 use outputs::Outputs;
+use protocol::error_codes::NO_ERROR;
+use protocol::frame_types::{CONTINUATION, DATA, HEADERS};
 use relay::Rooms;
 use std::alloc::{AllocError, Global};
 use upstreams::Due;
-
-/// DATA (RFC 9113, section 6.1), and the types of frames that have a fragment of a header block (sections 6.2 and 6.10).
-const DATA: u8 = 0;
-
-const HEADERS: u8 = 1;
-
-const CONTINUATION: u8 = 9;
-
-/// The code with which a connection ends that made no error (RFC 9113, section 7).
-const NO_ERROR: u32 = 0;
 
 /// By what a connection is served: by what requests are judged, and how bodies are passed on.
 #[derive(Clone, Copy)]

@@ -9,7 +9,8 @@ use Rattle.std.specs.Prelude.{cond, ◌&&◌, nat_lt}
 use Rattle.std.specs.List.{sum_by}
 use Rattle.std.proofs.lemmas.Bool.{ltb-true}
 use Rattle.std.proofs.lemmas.Bool.Decides.{nat_tests}
-use Rattle.model.specs.StreamStates.{OpenedStream, Change, is_active, active_count, after, changed, is_above, most_streams}
+use Rattle.model.specs.StreamStates.{OpenedStream, Change, is_active, active_count, after, changed, is_above}
+use Rattle.model.specs.Limits.{most_streams}
 use Rattle.stream_state.specs.declared.records.Record.{Record}
 use Rattle.stream_state.specs.declared.states.State.{State}
 use Rattle.stream_state.specs.declared.states.State.TheVariants.{Open, Closed}

@@ -4,7 +4,8 @@ use Rattle.std.specs.Prelude.{◌==◌, ◌%◌, ◌&&◌, if◌then◌else◌}
 use Rattle.std.proofs.lemmas.Bool.Decides.{nat_tests}
 use Rattle.model.specs.Errors.Fault.{Stream}
 use Rattle.model.specs.Frames.{refused_stream}
-use Rattle.model.specs.StreamStates.{StreamState, OpenedStream, Standing, is_above, state_of, opened_or, standing, verdict, most_streams}
+use Rattle.model.specs.StreamStates.{StreamState, OpenedStream, Standing, is_above, state_of, opened_or, standing, verdict}
+use Rattle.model.specs.Limits.{most_streams}
 use Rattle.model.specs.StreamStates.StreamState.{Open, HalfClosedRemote, HalfClosedLocal, Closed, ResetByPeer, ResetByUs}
 use Rattle.model.specs.StreamStates.Standing.{WholeConnection, Opened, Idle, ServerIdle, Skipped, Beyond}
 use Rattle.model.specs.StreamStates.Verdict.{Opens, Fails}

@@ -8,7 +8,8 @@ use Rattle.std.specs.Ordering.{nat_cmp, ordering_index}
 use Rattle.std.proofs.lemmas.Cmp.{ranked}
 use Rattle.std.proofs.lemmas.List.Sorted.{IsNonDecreasingBy-from_default}
 use Rattle.std.proofs.lemmas.Bool.Decides.{nat_tests}
-use Rattle.model.specs.StreamStates.{StreamState, Standing, state_of, is_above, opened_or, unopened, standing, most_streams}
+use Rattle.model.specs.StreamStates.{StreamState, Standing, state_of, is_above, opened_or, unopened, standing}
+use Rattle.model.specs.Limits.{most_streams}
 use Rattle.model.specs.StreamStates.Standing.{WholeConnection, Opened}
 use Rattle.stream_state.specs.declared.records.Record.{Record}
 use Rattle.stream_state.specs.Views.{state_in, highest_in}

@@ -4,3 +4,4 @@ pub use Rattle.model.specs.Frames
 pub use Rattle.model.specs.ErrorTable
 pub mod Views
 pub mod Records
+pub use Rattle.model.specs.Limits

@@ -1,6 +1,7 @@
 -- The records of streams that were opened, in the order of their ids.
 use Rattle.std.specs.Prelude.{◌≡◌, ℕ, ◌<◌, ◌≤◌, List, map, length, slice_index_or}
-use Rattle.model.specs.StreamStates.{OpenedStream, active_count, most_streams}
+use Rattle.model.specs.StreamStates.{OpenedStream, active_count}
+use Rattle.model.specs.Limits.{most_streams}
 use Rattle.stream_state.specs.declared.states.State.TheVariants.{Open}
 use Rattle.stream_state.specs.declared.records.Record.{Record}
 use Rattle.stream_state.specs.Views.{state_in}

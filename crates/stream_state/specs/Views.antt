@@ -2,7 +2,8 @@
 use Rattle.std.specs.Prelude.{◌≡◌, ℕ, ◌<◌, IsTrue, if◌then◌else◌, max, List, length, map, fold}
 use Rattle.model.specs.Errors.{Fault}
 use Rattle.model.specs.Frames.{data_kind, headers_kind, rst_stream_kind, window_update_kind, refused_stream}
-use Rattle.model.specs.StreamStates.{StreamState, is_active, Change, OpenedStream, is_above, most_streams, Standing, Verdict}
+use Rattle.model.specs.StreamStates.{StreamState, is_active, Change, OpenedStream, is_above, Standing, Verdict}
+use Rattle.model.specs.Limits.{most_streams}
 use Rattle.stream_state.specs.declared.states.State.{State}
 use Rattle.stream_state.specs.declared.states.State.TheVariants as state
 use Rattle.stream_state.specs.declared.states.Step.{Step}

@@ -2,7 +2,8 @@
 #![tactic(auto)]
 
 ghost use Rattle.std.specs.Prelude.{◌≡◌, ◌≤◌, [], ◌∷◌, ◌++◌, length, OnOk, OnErr};
-ghost use Rattle.model.specs.StreamStates.{StreamState, standing, verdict, active_count, changed, most_streams};
+ghost use Rattle.model.specs.StreamStates.{StreamState, standing, verdict, active_count, changed};
+ghost use Rattle.model.specs.Limits.{most_streams};
 ghost use Rattle.model.specs.StreamStates.Change.{RemoteEnds, LocalEnds, PeerResets, WeReset};
 
 mod records;
@@ -13,11 +14,12 @@ use crate::records::{Record, highest_id, place_of};
 pub use crate::states::State;
 use crate::states::{Step, count_after};
 pub use crate::verdicts::{Kind, Standing, Verdict, unopened_standing, verdict_at};
+use protocol::limits;
 use std::alloc::{AllocError, Global};
 use std::marker::Model;
 
 /// How many streams are opened on a connection (this project's profile).
-const MOST_STREAMS: usize = 10000;
+const MOST_STREAMS: usize = limits::MOST_STREAMS as usize;
 
 /// The streams that were opened on a connection, seen as a list of their ids and states, the first opened first.
 #[derive(Debug, Drop)]

@@ -1,7 +1,7 @@
 //! The states of streams that were opened (RFC 9113, section 5.1).
 
 ghost use Rattle.std.specs.Prelude.{◌≡◌, ◌+◌, ◌≤◌};
-ghost use Rattle.model.specs.StreamStates.{most_streams};
+ghost use Rattle.model.specs.Limits.{most_streams};
 ghost use Rattle.stream_state.specs.Views.{counted};
 
 /// The state of a stream that was opened; a closed one is told apart by what closed it.

@@ -5,16 +5,8 @@ ghost use Rattle.model.specs.StreamStates.{opened_verdict, idle_verdict, skipped
 ghost use Rattle.stream_state.specs.Views.{state_in, kind_in, standing_in, verdict_in};
 
 use crate::states::State;
-
-/// Error codes (RFC 9113, section 7).
-const PROTOCOL_ERROR: u32 = 1;
-
-const STREAM_CLOSED: u32 = 5;
-
-const REFUSED_STREAM: u32 = 7;
-
-/// How many streams are active at once: the SETTINGS_MAX_CONCURRENT_STREAMS that is announced (RFC 9113, section 6.5.2).
-const MOST_ACTIVE: u32 = 100;
+use protocol::error_codes::{PROTOCOL_ERROR, REFUSED_STREAM, STREAM_CLOSED};
+use protocol::limits::MOST_ACTIVE;
 
 /// A frame that a stream's state allows or forbids. HEADERS stand for a whole header block.
 #[derive(Clone, Copy, Debug, PartialEq, Eq)]

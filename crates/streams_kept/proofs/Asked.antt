@@ -7,7 +7,8 @@ use Rattle.std.proofs.lemmas.Bool.Decides.{nat_tests, eqb_tells}
 use Rattle.std.proofs.lemmas.List.{length-map, length-reverse, get_or_default, get_or-reverse, get_or-map}
 use Rattle.std.proofs.lemmas.List.Elements.{All-from_recursion, recursion_from_All}
 use Rattle.std.proofs.lemmas.List.Sums.{sum_by-cons}
-use Rattle.model.specs.StreamStates.{StreamState, state_of, is_above, opened_or, unopened, most_streams}
+use Rattle.model.specs.StreamStates.{StreamState, state_of, is_above, opened_or, unopened}
+use Rattle.model.specs.Limits.{most_streams}
 use Rattle.model.specs.StreamStates.Standing.{WholeConnection, Opened}
 use Rattle.model.specs.WindowsOnTape.{is_past}
 use Rattle.conduct.specs.Summary.{Stream as Kept}

@@ -6,7 +6,7 @@ use Rattle.std.proofs.lemmas.Bool.{cases_lt, cases_eq, and_parts, ltb-true}
 use Rattle.std.proofs.lemmas.List.{length-append, get_or_append_left, get_or_push, map-append, reverse-append}
 use Rattle.std.proofs.lemmas.List.Elements.{All-from_recursion}
 use Rattle.std.proofs.lemmas.List.Sums.{sum_by_push}
-use Rattle.model.specs.StreamStates.{most_streams}
+use Rattle.model.specs.Limits.{most_streams}
 use Rattle.conduct.specs.Summary.{Stream as Kept}
 use Rattle.conduct.specs.Rows as rows
 use Rattle.conduct.specs.Rows.{Row, ids_of}

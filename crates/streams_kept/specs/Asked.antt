@@ -2,7 +2,8 @@
 use Rattle.std.specs.Prelude.{◌≡◌, ℕ, ◌<◌, Bool, true, false, not, ◌&&◌, ◌==◌, if◌then◌else◌, List, map, filter, length}
 use Rattle.std.specs.List.{list_any}
 use Rattle.model.specs.StreamStates as states
-use Rattle.model.specs.StreamStates.{OpenedStream, Standing, Verdict, most_streams}
+use Rattle.model.specs.StreamStates.{OpenedStream, Standing, Verdict}
+use Rattle.model.specs.Limits.{most_streams}
 use Rattle.model.specs.Frames.{refused_stream}
 use Rattle.stream_state.specs.declared.verdicts.Verdict.{Verdict as Answer}
 use Rattle.stream_state.specs.declared.verdicts.Verdict.TheVariants as answer

@@ -11,3 +11,4 @@ pub mod Asked
 pub mod Sending
 pub mod Records
 pub mod HeldInside
+pub use Rattle.model.specs.Limits

@@ -2,7 +2,7 @@
 -- or none at each key.
 use Rattle.std.specs.Prelude.{◌≡◌, ◌≢◌, ℕ, ◌+◌, ◌<◌, ◌≤◌, Bool, true, false, List, map, reverse, length, slice_index_or, Option, Some, None, is_some}
 use Rattle.std.specs.List.{count_by}
-use Rattle.model.specs.StreamStates.{most_streams}
+use Rattle.model.specs.Limits.{most_streams}
 use Rattle.model.specs.WindowsOnTape.{is_past}
 use Rattle.conduct.specs.Judging.{window_in}
 use Rattle.conduct.specs.Rows as rows

@@ -1,6 +1,7 @@
 -- What the gateway does on an active stream, and what comes of its upstream's answer.
 use Rattle.std.specs.Prelude.{◌≡◌, ℕ, Bool, true, false, ◌||◌, ◌&&◌, ◌==◌, [], Some, is_none, pos, ◌+ℤ◌, ◌-ℤ◌, ◌≤ℤ◌, List}
-use Rattle.model.specs.Windows.{greatest_window, IsAboveLeast}
+use Rattle.model.specs.Windows.{IsAboveLeast}
+use Rattle.model.specs.Limits.{greatest_window}
 use Rattle.model.specs.Causes.Cause.{BadAnswer}
 use Rattle.conduct.specs.Summary.{Stream as Kept}
 use Rattle.conduct.specs.Owing.{brief_behind}

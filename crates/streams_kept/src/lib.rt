@@ -5,8 +5,8 @@
 #![tactic(auto)]
 
 ghost use Rattle.std.specs.Prelude.{◌≡◌, ◌==◌, ◌<◌, ◌≤◌, true, false, [], ◌∷◌, length, pos, ◌+ℤ◌, ◌≤ℤ◌, IfSome, IfNone, OnOk, OnErr};
-ghost use Rattle.model.specs.StreamStates.{most_streams};
-ghost use Rattle.model.specs.Windows.{greatest_window, IsSize};
+ghost use Rattle.model.specs.Limits.{most_streams, greatest_window};
+ghost use Rattle.model.specs.Windows.{IsSize};
 ghost use Rattle.conduct.specs.Owing.{highest_in};
 ghost use Rattle.conduct.specs.Judging.{is_over_in};
 ghost use Rattle.conduct.specs.Rows.{find as kept_of, ids_of, slot_of};
@@ -30,13 +30,14 @@ use crate::records::{
 };
 use crate::steps::Step;
 pub use causes::Cause;
+use protocol::limits;
 use slab::Slab;
 use std::alloc::{AllocError, Global};
 use std::marker::Model;
 use stream_state::{Kind, Standing, Verdict, unopened_standing, verdict_at};
 
 /// How many streams are opened on a connection (this project's profile).
-const MOST_STREAMS: usize = 10000;
+const MOST_STREAMS: usize = limits::MOST_STREAMS as usize;
 
 /// The streams of a connection, seen as the rows of conduct's book, the newest first.
 #[derive(Debug, Drop)]

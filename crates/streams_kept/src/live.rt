@@ -13,11 +13,9 @@ use crate::course::Course;
 use crate::steps::Step;
 use causes::Cause;
 use flow_control::Window;
+use protocol::limits::FIRST_WINDOW;
 use std::marker::Model;
 use stream_state::State;
-
-/// The first size of windows (RFC 9113, section 6.9.2).
-const FIRST_WINDOW: u32 = 65535;
 
 /// An active stream (RFC 9113, section 5.1). A clause sees all that conduct keeps of one.
 #[derive(Debug, Drop)]

@@ -2,7 +2,8 @@
 
 ghost use Rattle.std.specs.Prelude.{◌≡◌, ◌==◌, ◌≤◌, false, Some, None, IsSome, IfSome, IfNone, IfOk, OnErr, slice_set, pos, ◌+ℤ◌, ◌≤ℤ◌};
 ghost use Rattle.std.specs.List.{list_any};
-ghost use Rattle.model.specs.Windows.{greatest_window, IsSize};
+ghost use Rattle.model.specs.Windows.{IsSize};
+ghost use Rattle.model.specs.Limits.{greatest_window};
 ghost use Rattle.slab.specs.Slab.{entries, HasRoomFor, with_value};
 ghost use Rattle.streams_kept.specs.Steps.{granted, taken};
 ghost use Rattle.streams_kept.specs.Sending.{stepped, HasRoom};
@@ -16,12 +17,13 @@ use crate::course::Course;
 use crate::entries::{Entry, Slot};
 use crate::live::Live;
 use crate::steps::Step;
+use protocol::limits::GREATEST_WINDOW;
 use slab::Slab;
 use std::alloc::AllocError;
 use stream_state::State;
 
 /// The greatest size that a window may have (RFC 9113, section 6.9.1).
-const GREATEST: i64 = 2147483647;
+const GREATEST: i64 = GREATEST_WINDOW as i64;
 
 /// The record of an active stream, with its id, which a look-up compares, since keys are used again.
 #[derive(Debug, Drop)]

@@ -7,7 +7,7 @@ use crate::judgements::difference;
 use crate::rows::{Head, Row, find, head_of, transcript_of};
 use crate::transcripts::Transcript;
 use configuration::{ConfigFault, read_config};
-use gateway::{Config, Passing, Policy, Route};
+use gateway::{Config, Route};
 use std::alloc::{AllocError, Global};
 use std::io::ErrorKind;
 use std::{env, fs, io};
@@ -85,14 +85,7 @@ fn default_config(alloc: Global) -> Result<Config, AllocError>
         prefix: Vec::from_slice(alloc, b"/")?,
         upstream: String::new(alloc),
     };
-    Ok(Config {
-        routes: vec![in alloc; route]?,
-        policy: Policy::Plain,
-        passing: Passing::Whole,
-        max_body: 1048576,
-        max_response: 1048576,
-        keep: false,
-    })
+    Ok(Config::new(vec![in alloc; route]?))
 }
 
 impl Found {

@@ -3,7 +3,7 @@ use Rattle.std.proofs.Common.{◌≡◌, ℕ, ◌+◌, ◌<◌, ◌≤◌, ◌==
 use Rattle.std.specs.Prelude.{Option, is_some, suc, reverse, option_map}
 use Rattle.std.proofs.lemmas.Bool.{eq-eqb, ne_eqb, eqb-true, ltb-true, cases_lt, false≢true}
 use Rattle.std.proofs.lemmas.List.{reverse-append, append-nil, length-reverse}
-use Rattle.model.specs.Idle.{most_idle}
+use Rattle.model.specs.Limits.{most_idle}
 use Rattle.answers.specs.Waiting.{Answer}
 use Rattle.serving.specs.Lines as serving
 use Rattle.serving.specs.Lines.{Line, Heard, find, without, is_idle, idle_ones, idle_beside, answer_by}

@@ -1,7 +1,7 @@
 //! The numbers of the connections that are idle, by rising number.
 
 ghost use Rattle.std.specs.Prelude.{ℕ, ◌≡◌, ◌<◌, ◌≤◌, length, slice_index_or};
-ghost use Rattle.model.specs.Idle.{most_idle};
+ghost use Rattle.model.specs.Limits.{most_idle};
 ghost use Rattle.upstreams.specs.Connections.{others, among};
 
 use crate::progress::MOST_IDLE;

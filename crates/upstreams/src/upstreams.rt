@@ -2,7 +2,7 @@
 
 ghost use Rattle.std.specs.Prelude.{◌≡◌, ◌+◌, ◌<◌, ◌≤◌, [], suc, map, reverse, true, Some, None, is_some, MatchBool, MatchOption, IfSome, OnOk, OnErr, IfOk};
 ghost use Rattle.model.specs.Http2.{HasLength};
-ghost use Rattle.model.specs.StreamStates.{most_streams};
+ghost use Rattle.model.specs.Limits.{most_streams};
 ghost use Rattle.h1_reader.specs.Standing.{Stands};
 ghost use Rattle.serving.specs.Lines.{find, without, least_idle};
 ghost use Rattle.serving.specs.State.{id_of, held_of, drop_from};

@@ -20,7 +20,7 @@ use Rattle.outputs.specs.declared.events.Output.{Output}
 use Rattle.worlds.specs.declared.services.Ended.{Ended}
 use Rattle.worlds.specs.declared.services.Peer.{Peer}
 use Rattle.worlds.specs.declared.services.ServeFault.TheVariants.{NotAdmitted}
-use Rattle.worlds.specs.Worlds.{Handed, Serves, StandsWithRooms, AddsFrontTo, AddsUnansweredTo, AddsHanded, IsHanded, AreHanded, AreAllHanded, HandsTo, MayNotCome, came, with_outputs, closes, has_closed, is_closed}
+use Rattle.worlds.specs.Worlds.{Handed, Serves, StandsWithRooms, AddsPromised, AddsFrontTo, AddsUnansweredTo, AddsHanded, IsHanded, AreHanded, AreAllHanded, HandsTo, MayNotCome, came, with_outputs, closes, has_closed, is_closed}
 use Rattle.worlds.specs.Worlds.IsFrontOf.{Whole, Lacks}
 
 -- ---- whether the client is closed
@@ -147,7 +147,7 @@ serves_more setup g g' before added run event old out log closed rooms earlier h
 
 -- What is promised holds of what was added.
 pub serves_run : (setup : Setup) (closed : Bool) (ended : Ended) (log : Option (List Step)) (g : Standing) (rooms : List (ℕ × ℕ)) (old handed : Option (List Handed)) (before : List Step) → Serves setup closed log g rooms old handed before → closed ≡ is_closed ended
-    → (added : List Step) × (log ≡ Some (before ++ added)) × Promise setup added × (has_closed added ≡ is_closed ended)
+    → AddsPromised setup (is_closed ended) before log
 serves_run setup closed ended log g rooms old handed before s is = (s.added, s.is, (promised_at setup g s.added s.run s.stands).0, s.has_closed_is ∙ is)
 
 -- What was added, before a call of the world failed.
@@ -173,7 +173,7 @@ front_lacks setup g g' before added run event old out log done more parts is ste
 pub may_not_come : (setup : Setup) (closed : Bool) (log : Option (List Step)) (g : Standing) (rooms : List (ℕ × ℕ)) (old handed : Option (List Handed)) (before : List Step) (event : Event) → (s : Serves setup closed log g rooms old handed before)
     → (IsAdmitted (known_of setup (conducts s.run)) (tape_of s.run) (event_of event) → ⊥) → MayNotCome setup s.added (event_of event)
 may_not_come setup closed log g rooms old handed before event s refused =
-    let promised = promised_at setup g s.added s.run s.stands in record { promise = promised.0; refused = λ may. refused (subst (λ t. IsAdmitted (known_of setup (conducts s.run)) t (event_of event)) promised.1 (subst (λ k. IsAdmitted k promised.0.tape (event_of event)) promised.2 may)) }
+    let promised = promised_at setup g s.added s.run s.stands in record { promise = promised.0; refused = λ may. refused (subst (λ t. IsAdmitted (known_of setup (conducts s.run)) t (event_of event)) promised.1 (subst (λ k. IsAdmitted k promised.0.headline.tape (event_of event)) promised.2 may)) }
 
 -- Nothing is put out for the event that came last.
 pub unanswered : (setup : Setup) (closed : Bool) (log came_log log' : Option (List Step)) (g : Standing) (rooms : List (ℕ × ℕ)) (old handed : Option (List Handed)) (before : List Step) (event : Event) → log' ≡ came_log
@@ -196,7 +196,7 @@ hands_one setup log g rooms old handed handed' before adds s = λ earlier e.
       goes_on = s.has_closed_is;
       steps = length-append before s.added;
       promise = p.0;
-      rooms = subst (λ k. AreRooms k p.0.tape rooms) (sym p.2) (subst (λ t. AreRooms (known_of setup (conducts s.run)) t rooms) (sym p.1) s.rooms_are);
+      rooms = subst (λ k. AreRooms k p.0.headline.tape rooms) (sym p.2) (subst (λ t. AreRooms (known_of setup (conducts s.run)) t rooms) (sym p.1) s.rooms_are);
     } in (
       a.0 ++ one ∷ [],
       adds (before ++ s.added) (earlier ++ a.0) s.is a.1 ∙ ap Some (append_assoc earlier a.0 (one ∷ [])),

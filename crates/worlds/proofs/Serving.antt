@@ -4,8 +4,7 @@ use Rattle.model.specs.Logs.{Step}
 use Rattle.model.specs.Setup.{Setup}
 use Rattle.gateway.specs.Stands.{Standing}
 use Rattle.gateway.proofs.Running.{promised_at}
-use Rattle.worlds.specs.Worlds.{Handed, Serves}
-use Rattle.worlds.specs.Services.{AddsPromised}
+use Rattle.worlds.specs.Worlds.{Handed, Serves, AddsPromised}
 
 -- What is promised holds of what was added.
 pub serves_promised : (setup : Setup) (closed : Bool) (log : Option (List Step)) (g : Standing) (rooms : List (ℕ × ℕ)) (old handed : Option (List Handed)) (before : List Step) → Serves setup closed log g rooms old handed before → AddsPromised setup closed before log

@@ -1,10 +1,9 @@
 -- What a service is seen as, and what is promised of what it adds to a log.
-use Rattle.std.specs.Prelude.{◌≡◌, ℕ, Bool, Option, Some, None, Result, Ok, Err, List, [], ◌++◌}
+use Rattle.std.specs.Prelude.{◌≡◌, ℕ, Bool, Option, Some, None, Result, Ok, Err, List, []}
 use Rattle.model.specs.Logs.{Step}
 use Rattle.model.specs.Setup.{Setup}
-use Rattle.gateway.specs.Promises.{Promise}
 use Rattle.gateway.specs.Stands.{Standing, Stands}
-use Rattle.worlds.specs.Worlds.{Handed, Serves, has_closed}
+use Rattle.worlds.specs.Worlds.{Handed, Serves}
 use Rattle.worlds.specs.declared.services.Ended.{Ended}
 use Rattle.worlds.specs.declared.services.ServeFault.{ServeFault}
 
@@ -34,7 +33,3 @@ outcome_of (Err fault) = Some (Err fault)
 -- The service stands for what was added to this log, in which the client is closed or not, and what was handed since was right.
 abbrev pub Goes : Setup → Bool → Served → Option (List Step) → Option (List Handed) → List Step → Option (List Handed) → Type 0
 Goes setup closed service log handed before earlier = Serves setup closed log service.gateway service.rooms earlier handed before
-
--- What is promised holds of what was added to this log, in which the client is closed or not.
-abbrev pub AddsPromised : Setup → Bool → List Step → Option (List Step) → Type 0
-AddsPromised setup closed before new = (added : List Step) × (new ≡ Some (before ++ added)) × Promise setup added × (has_closed added ≡ closed)

@@ -104,10 +104,13 @@ SaysEnd (Some Closed) over = ⊤
 SaysEnd (Some OverAtLast) over = over ≡ true
 SaysEnd (Some Turns) over = ⊥
 
--- What is promised holds of what was added to the log, and the client is closed in it just where that is said.
+-- What is promised holds of what was added to this log, in which the client is closed or not.
+abbrev pub AddsPromised : Setup → Bool → List Step → Option (List Step) → Type 0
+AddsPromised setup closed before new = (added : List Step) × (new ≡ Some (before ++ added)) × Promise setup added × (has_closed added ≡ closed)
+
+-- That holds of what was added to the log, and the client is closed in it just where that is said.
 abbrev pub AddsRun : Setup → Ended → Option (List Step) → Option (List Step) → Type 0
-AddsRun setup ended old new = (before : List Step) → old ≡ Some before
-    → (added : List Step) × (new ≡ Some (before ++ added)) × Promise setup added × (has_closed added ≡ is_closed ended)
+AddsRun setup ended old new = (before : List Step) → old ≡ Some before → AddsPromised setup (is_closed ended) before new
 
 -- A log is a whole one, or lacks outputs at the end of its last step.
 pub data IsFrontOf : List Step → List Step → Type 0 where
@@ -124,7 +127,7 @@ AddsFront setup old new = (before : List Step) → old ≡ Some before → AddsF
 -- What is promised holds of the log, by a tape behind which the event may not come.
 pub record MayNotCome (setup : Setup) (log : List Step) (event : logs.Event) : Type 0 where
   pub promise : Promise setup log
-  pub refused : IsAdmitted promise.known promise.tape event → ⊥
+  pub refused : IsAdmitted promise.headline.known promise.headline.tape event → ⊥
 
 -- The event that came last may not come behind what was added before it, and nothing is put out for it. It is of this peer.
 abbrev pub AddsRefusedTo : Setup → Peer → List Step → Option (List Step) → Type 0
@@ -153,7 +156,7 @@ pub record IsHanded (setup : Setup) (before : ℕ) (added : List Step) (handed :
   pub goes_on : has_closed front ≡ false
   pub steps : handed.steps ≡ before + length front
   pub promise : Promise setup front
-  pub rooms : AreRooms promise.known promise.tape handed.rooms
+  pub rooms : AreRooms promise.headline.known promise.headline.tape handed.rooms
 
 abbrev pub AreHanded : Setup → ℕ → List Step → List Handed → Type 0
 AreHanded setup before added [] = Unit {0}

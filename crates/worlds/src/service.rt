@@ -5,8 +5,8 @@ ghost use Rattle.model.specs.Logs.{Step};
 ghost use Rattle.model.specs.Setup.{Setup};
 ghost use Rattle.gateway.specs.Setups.{setup_of, IsServable};
 ghost use Rattle.gateway.specs.Stands.{opened_in};
-ghost use Rattle.worlds.specs.Worlds.{Handed, AddsFrontTo, AddsRefusedTo, AddsUnansweredTo, HandsTo, SaysEnd, ends};
-ghost use Rattle.worlds.specs.Services.{Begins, Goes, AddsPromised, turn_of, outcome_of};
+ghost use Rattle.worlds.specs.Worlds.{Handed, AddsPromised, AddsFrontTo, AddsRefusedTo, AddsUnansweredTo, HandsTo, SaysEnd, ends};
+ghost use Rattle.worlds.specs.Services.{Begins, Goes, turn_of, outcome_of};
 
 use crate::services::{Ended, Peer, ServeFault, take_turn};
 use crate::world::World;
@@ -95,33 +95,12 @@ impl Service {
             → HandsTo setup before earlier (W.log world.new) (W.handed world.new)) }
     {
         match self.outcome {
-            Some(outcome) => turn_of(outcome),
+            Some(outcome) => outcome.map(Some),
             None => {
                 let turn = take_turn(self.alloc, &mut self.gateway, world, &mut self.rooms);
-                self.outcome = outcome_of(turn);
+                self.outcome = turn.transpose();
                 turn
             }
         }
-    }
-}
-
-/// What a turn answers of a service that ended so.
-fn turn_of(outcome: Result<Ended, ServeFault>) -> Result<Option<Ended>, ServeFault>
-    ensures { result ≡ turn_of outcome }
-{
-    match outcome {
-        Ok(ended) => Ok(Some(ended)),
-        Err(fault) => Err(fault),
-    }
-}
-
-/// How a service ended, by what its turn answered, if it did.
-fn outcome_of(turn: Result<Option<Ended>, ServeFault>) -> Option<Result<Ended, ServeFault>>
-    ensures { result ≡ outcome_of turn }
-{
-    match turn {
-        Ok(None) => None,
-        Ok(Some(ended)) => Some(Ok(ended)),
-        Err(fault) => Some(Err(fault)),
     }
 }

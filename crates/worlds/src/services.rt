@@ -19,6 +19,8 @@ use crate::service::Service;
 use crate::world::{Next, World, WorldFault};
 use gateway::{Config, Event, Gateway, Output};
 use std::alloc::Global;
+use std::fmt;
+use thiserror::Error;
 
 /// How serving a world ended.
 #[derive(Clone, Copy, Debug, PartialEq, Eq, Drop)]
@@ -42,6 +44,16 @@ pub enum Peer {
     World,
 }
 
+impl fmt::Display for Peer {
+    fn fmt<W: fmt::Write>(&self, f: &mut fmt::Formatter<W>) -> fmt::Result {
+        match self {
+            Peer::Client => f.write_str("the client"),
+            Peer::Upstream(k) => write!(f, "upstream connection {k}"),
+            Peer::World => f.write_str("the world"),
+        }
+    }
+}
+
 /// Whose event this is.
 fn whose(event: &Event) -> Peer
     ensures { result ≡ peer_of event.now }
@@ -54,13 +66,16 @@ fn whose(event: &Event) -> Peer
 }
 
 /// Why serving a world failed.
-#[derive(Clone, Copy, Debug, PartialEq, Eq, Drop)]
+#[derive(Clone, Copy, Debug, PartialEq, Eq, Drop, Error)]
 pub enum ServeFault {
     /// A call of the world failed.
+    #[error("a call of the world failed")]
     World,
     /// Memory was refused.
+    #[error("memory was refused")]
     Memory,
     /// An event of this peer came that may not come after those before it. It was left alone.
+    #[error("an event of {0} came that may not come after those before it")]
     NotAdmitted(Peer),
 }
 

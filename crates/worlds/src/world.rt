@@ -8,9 +8,11 @@ ghost use Rattle.worlds.specs.Worlds.{Handed, AddsEvent, AddsHanded, SaysOver, K
 use outputs::{Event, Output};
 use std::alloc::{AllocError, AllocFailed};
 use std::io;
+use thiserror::Error;
 
 /// A call of a world failed. Want of memory in a world is such a failure too.
-#[derive(Clone, Copy, Debug, PartialEq, Eq, Drop)]
+#[derive(Clone, Copy, Debug, PartialEq, Eq, Drop, Error)]
+#[error("a call of the world failed")]
 pub struct WorldFault {}
 
 impl From<AllocError> for WorldFault {

@@ -2,7 +2,7 @@
 
 use causes::{Cause, Route};
 use frames::View;
-use judgement::{BlockJudged, Connection, Fault, FrameJudged, Judged, Terms};
+use judgement::{BlockJudged, Connection, Fault, Judged, Terms};
 use std::alloc::{AllocError, Global};
 use std::slice;
 use std::test::*;
@@ -107,32 +107,6 @@ fn told_of(judged: BlockJudged) -> Told {
     }
 }
 
-/// What comes of a frame of any type, as it is told.
-fn told_of_any(judged: FrameJudged<'_>) -> Told {
-    match judged {
-        FrameJudged::Plain(Judged::Failed(fault)) => Told::Failed(fault),
-        FrameJudged::Plain(_) => Told::Plain,
-        FrameJudged::OfBlock(judged) => told_of(judged),
-    }
-}
-
-/// Judges a frame of any type.
-fn told_any(
-    connection: &mut Connection,
-    routes: &[Route],
-    view: View<'_>,
-) -> Result<Told, AllocError> {
-    if view.payload.len() > 16384 || routes.len() > 9 {
-        return Ok(Told::NoSuchFrame);
-    }
-    let terms = Terms {
-        routes,
-        max_body: MOST,
-    };
-    let judged = connection.judge_frame(view, false, terms)?;
-    Ok(told_of_any(judged))
-}
-
 /// Judges HEADERS or CONTINUATION.
 fn told_of_fragment(
     connection: &mut Connection,
@@ -151,6 +125,29 @@ fn told_of_fragment(
     };
     let judged = connection.judge_fragment(view, false, terms)?;
     Ok(told_of(judged))
+}
+
+/// Judges a frame that is neither.
+fn told_of_other(connection: &mut Connection, view: View<'_>) -> Told {
+    if view.payload.len() > 16384 || view.kind == HEADERS || view.kind == CONTINUATION {
+        return Told::NoSuchFrame;
+    }
+    match connection.judge(view, MOST) {
+        Judged::Failed(fault) => Told::Failed(fault),
+        _ => Told::Plain,
+    }
+}
+
+/// Judges a frame of any type.
+fn told_any(
+    connection: &mut Connection,
+    routes: &[Route],
+    view: View<'_>,
+) -> Result<Told, AllocError> {
+    if view.kind == HEADERS || view.kind == CONTINUATION {
+        return told_of_fragment(connection, routes, view);
+    }
+    Ok(told_of_other(connection, view))
 }
 
 fn view_of<'a>(row: &Row<'a>) -> View<'a> {
@@ -314,90 +311,163 @@ fn first_of(alloc: Global, taken: Taken, rows: &[Row<'_>]) -> Result<Option<usiz
     first_by(alloc, b"/", taken, rows)
 }
 
-static ANY: [Row<'static>; 4] = [
+/// Tables: what each shows, how its frames are taken, and its rows, with a route for all paths.
+static TABLES: [(&str, Taken, &[Row]); 9] = [
     (
-        CONTINUATION,
-        WHOLE,
-        1,
-        GET,
-        Told::Failed(Fault::Connection(1)),
+        "frames of any type are judged",
+        Taken::AsAny,
+        &[
+            (
+                CONTINUATION,
+                WHOLE,
+                1,
+                GET,
+                Told::Failed(Fault::Connection(1)),
+            ),
+            (DATA, 0, 1, TRAILERS, Told::Failed(Fault::Connection(1))),
+            (HEADERS, WHOLE, 1, GET, Told::Begins(0)),
+            (DATA, 0, 1, TRAILERS, Told::Plain),
+        ],
     ),
-    (DATA, 0, 1, TRAILERS, Told::Failed(Fault::Connection(1))),
-    (HEADERS, WHOLE, 1, GET, Told::Begins(0)),
-    (DATA, 0, 1, TRAILERS, Told::Plain),
+    (
+        "a request begins and ends",
+        Taken::AsFragments,
+        &[
+            (HEADERS, ALL, 1, GET, Told::Begins(0)),
+            (HEADERS, ALL, 1, TRAILERS, Told::Failed(Fault::Stream(5))),
+            (HEADERS, ALL, 1, TRAILERS, Told::Failed(Fault::Discarded)),
+            (HEADERS, ALL, 5, GET, Told::Begins(0)),
+            (HEADERS, ALL, 3, GET, Told::Failed(Fault::Connection(1))),
+        ],
+    ),
+    (
+        "a block comes in fragments",
+        Taken::AsFragments,
+        &[
+            (
+                CONTINUATION,
+                WHOLE,
+                1,
+                GET,
+                Told::Failed(Fault::Connection(1)),
+            ),
+            (HEADERS, ENDS, 1, GET_FRONT, Told::GoesOn),
+            (HEADERS, WHOLE, 3, GET, Told::Failed(Fault::Connection(1))),
+            (CONTINUATION, 0, 1, GET_MORE, Told::GoesOn),
+            (CONTINUATION, WHOLE, 1, GET_REST, Told::Begins(0)),
+        ],
+    ),
+    // HEADERS too short for its pad length or its priority, with more padding than there are octets, and with as much.
+    (
+        "payloads hold their fragments",
+        Taken::AsFragments,
+        &[
+            (HEADERS, PADDED, 1, b"", Told::Failed(Fault::Connection(6))),
+            (
+                HEADERS,
+                WITH_PRIORITY,
+                1,
+                b"1234",
+                Told::Failed(Fault::Connection(6)),
+            ),
+            (
+                HEADERS,
+                PADDED,
+                1,
+                TOO_MUCH_PADDING,
+                Told::Failed(Fault::Connection(1)),
+            ),
+            (HEADERS, PADDED, 1, ALL_PADDING, Told::GoesOn),
+            (CONTINUATION, WHOLE, 1, GET, Told::Begins(0)),
+            (
+                HEADERS,
+                WITH_PRIORITY,
+                3,
+                GET_WITH_PRIORITY,
+                Told::Begins(0),
+            ),
+        ],
+    ),
+    // Trailers that end their request, that don't, that come before all octets that the head declares, that have a pseudo-field, of which
+    // one is passed on, and of which none is.
+    (
+        "trailers end a request",
+        Taken::AsFragments,
+        &[
+            (HEADERS, WHOLE, 1, GET, Told::Begins(0)),
+            (HEADERS, ALL, 1, TRAILERS, Told::Trailers(1)),
+            (HEADERS, WHOLE, 3, GET, Told::Begins(0)),
+            (HEADERS, WHOLE, 3, TRAILERS, Told::Failed(Fault::Stream(1))),
+            (HEADERS, WHOLE, 5, POST, Told::Begins(0)),
+            (HEADERS, ALL, 5, TRAILERS, Told::Failed(Fault::Stream(1))),
+            (HEADERS, WHOLE, 7, GET, Told::Begins(0)),
+            (HEADERS, ALL, 7, PATH, Told::Failed(Fault::Stream(1))),
+            (HEADERS, WHOLE, 9, GET, Told::Begins(0)),
+            (HEADERS, ALL, 9, SOME_DROPPED, Told::Trailers(1)),
+            (HEADERS, WHOLE, 11, GET, Told::Begins(0)),
+            (HEADERS, ALL, 11, ALL_DROPPED, Told::Trailers(0)),
+        ],
+    ),
+    // HEADERS on a stream that its client reset.
+    (
+        "nothing follows on a stream that its client reset",
+        Taken::AsAny,
+        &[
+            (HEADERS, WHOLE, 1, GET, Told::Begins(0)),
+            (RST_STREAM, 0, 1, b"code", Told::Plain),
+            (
+                HEADERS,
+                ALL,
+                1,
+                TRAILERS,
+                Told::Failed(Fault::Connection(5)),
+            ),
+        ],
+    ),
+    // HEADERS on a stream that its client ended, and then the response.
+    (
+        "nothing follows on a stream that its client ended, and then the response",
+        Taken::BehindAResponse,
+        &[(
+            HEADERS,
+            ALL,
+            1,
+            TRAILERS,
+            Told::Failed(Fault::Connection(5)),
+        )],
+    ),
+    // A head without a path, one on a stream that is over, one on a stream of the server, and one that can't be decoded.
+    (
+        "heads that are none",
+        Taken::AsFragments,
+        &[
+            (HEADERS, ALL, 1, GET_FRONT, Told::Failed(Fault::Stream(1))),
+            (HEADERS, ALL, 1, GET, Told::Failed(Fault::Discarded)),
+            (HEADERS, ALL, 2, GET, Told::Failed(Fault::Connection(1))),
+            (
+                HEADERS,
+                ALL,
+                3,
+                NO_BLOCK,
+                Told::Failed(Fault::Connection(9)),
+            ),
+        ],
+    ),
+    (
+        "the 101st stream is refused",
+        Taken::BehindAHundred,
+        &[
+            (HEADERS, WHOLE, 201, GET, Told::Failed(Fault::Stream(7))),
+            (HEADERS, WHOLE, 201, GET, Told::Failed(Fault::Discarded)),
+        ],
+    ),
 ];
 
 #[test]
-fn frames_of_any_type_are_judged(rt: HostRuntime) -> Result<(), Fail> {
-    assert_eq!(rt; first_of(rt.alloc(), Taken::AsAny, &ANY)?, None);
-    Ok(())
-}
-
-static REQUESTS: [Row<'static>; 5] = [
-    (HEADERS, ALL, 1, GET, Told::Begins(0)),
-    (HEADERS, ALL, 1, TRAILERS, Told::Failed(Fault::Stream(5))),
-    (HEADERS, ALL, 1, TRAILERS, Told::Failed(Fault::Discarded)),
-    (HEADERS, ALL, 5, GET, Told::Begins(0)),
-    (HEADERS, ALL, 3, GET, Told::Failed(Fault::Connection(1))),
-];
-
-#[test]
-fn a_request_begins_and_ends(rt: HostRuntime) -> Result<(), Fail> {
-    assert_eq!(rt; first_of(rt.alloc(), Taken::AsFragments, &REQUESTS)?, None);
-    Ok(())
-}
-
-static FRAGMENTS: [Row<'static>; 5] = [
-    (
-        CONTINUATION,
-        WHOLE,
-        1,
-        GET,
-        Told::Failed(Fault::Connection(1)),
-    ),
-    (HEADERS, ENDS, 1, GET_FRONT, Told::GoesOn),
-    (HEADERS, WHOLE, 3, GET, Told::Failed(Fault::Connection(1))),
-    (CONTINUATION, 0, 1, GET_MORE, Told::GoesOn),
-    (CONTINUATION, WHOLE, 1, GET_REST, Told::Begins(0)),
-];
-
-#[test]
-fn a_block_comes_in_fragments(rt: HostRuntime) -> Result<(), Fail> {
-    assert_eq!(rt; first_of(rt.alloc(), Taken::AsFragments, &FRAGMENTS)?, None);
-    Ok(())
-}
-
-/// HEADERS too short for its pad length or its priority, with more padding than there are octets, and with as much.
-static PAYLOADS: [Row<'static>; 6] = [
-    (HEADERS, PADDED, 1, b"", Told::Failed(Fault::Connection(6))),
-    (
-        HEADERS,
-        WITH_PRIORITY,
-        1,
-        b"1234",
-        Told::Failed(Fault::Connection(6)),
-    ),
-    (
-        HEADERS,
-        PADDED,
-        1,
-        TOO_MUCH_PADDING,
-        Told::Failed(Fault::Connection(1)),
-    ),
-    (HEADERS, PADDED, 1, ALL_PADDING, Told::GoesOn),
-    (CONTINUATION, WHOLE, 1, GET, Told::Begins(0)),
-    (
-        HEADERS,
-        WITH_PRIORITY,
-        3,
-        GET_WITH_PRIORITY,
-        Told::Begins(0),
-    ),
-];
-
-#[test]
-fn payloads_hold_their_fragments(rt: HostRuntime) -> Result<(), Fail> {
-    assert_eq!(rt; first_of(rt.alloc(), Taken::AsFragments, &PAYLOADS)?, None);
+fn blocks_are_judged_as_they_should(rt: HostRuntime) -> Result<(), Fail> {
+    for (name, taken, rows) in &TABLES {
+        assert_eq!(rt; first_of(rt.alloc(), *taken, rows)?, None, "{name}");
+    }
     Ok(())
 }
 
@@ -440,81 +510,6 @@ fn the_longest_block_is_read(rt: HostRuntime) -> Result<(), Fail> {
     Ok(())
 }
 
-/// Trailers that end their request, that don't, that come before all octets that the head declares, that have a pseudo-field, of which
-/// one is passed on, and of which none is.
-static ENDINGS: [Row<'static>; 12] = [
-    (HEADERS, WHOLE, 1, GET, Told::Begins(0)),
-    (HEADERS, ALL, 1, TRAILERS, Told::Trailers(1)),
-    (HEADERS, WHOLE, 3, GET, Told::Begins(0)),
-    (HEADERS, WHOLE, 3, TRAILERS, Told::Failed(Fault::Stream(1))),
-    (HEADERS, WHOLE, 5, POST, Told::Begins(0)),
-    (HEADERS, ALL, 5, TRAILERS, Told::Failed(Fault::Stream(1))),
-    (HEADERS, WHOLE, 7, GET, Told::Begins(0)),
-    (HEADERS, ALL, 7, PATH, Told::Failed(Fault::Stream(1))),
-    (HEADERS, WHOLE, 9, GET, Told::Begins(0)),
-    (HEADERS, ALL, 9, SOME_DROPPED, Told::Trailers(1)),
-    (HEADERS, WHOLE, 11, GET, Told::Begins(0)),
-    (HEADERS, ALL, 11, ALL_DROPPED, Told::Trailers(0)),
-];
-
-#[test]
-fn trailers_end_a_request(rt: HostRuntime) -> Result<(), Fail> {
-    assert_eq!(rt; first_of(rt.alloc(), Taken::AsFragments, &ENDINGS)?, None);
-    Ok(())
-}
-
-/// HEADERS on a stream that its client reset.
-static BEHIND_A_RESET: [Row<'static>; 3] = [
-    (HEADERS, WHOLE, 1, GET, Told::Begins(0)),
-    (RST_STREAM, 0, 1, b"code", Told::Plain),
-    (
-        HEADERS,
-        ALL,
-        1,
-        TRAILERS,
-        Told::Failed(Fault::Connection(5)),
-    ),
-];
-
-/// HEADERS on a stream that its client ended, and then the response.
-static BEHIND_ITS_END: [Row<'static>; 1] = [(
-    HEADERS,
-    ALL,
-    1,
-    TRAILERS,
-    Told::Failed(Fault::Connection(5)),
-)];
-
-#[test]
-fn nothing_follows_on_a_closed_stream(rt: HostRuntime) -> Result<(), Fail> {
-    assert_eq!(rt; first_of(rt.alloc(), Taken::AsAny, &BEHIND_A_RESET)?, None);
-    assert_eq!(rt;
-        first_of(rt.alloc(), Taken::BehindAResponse, &BEHIND_ITS_END)?,
-        None
-    );
-    Ok(())
-}
-
-/// A head without a path, one on a stream that is over, one on a stream of the server, and one that can't be decoded.
-static NO_HEADS: [Row<'static>; 4] = [
-    (HEADERS, ALL, 1, GET_FRONT, Told::Failed(Fault::Stream(1))),
-    (HEADERS, ALL, 1, GET, Told::Failed(Fault::Discarded)),
-    (HEADERS, ALL, 2, GET, Told::Failed(Fault::Connection(1))),
-    (
-        HEADERS,
-        ALL,
-        3,
-        NO_BLOCK,
-        Told::Failed(Fault::Connection(9)),
-    ),
-];
-
-#[test]
-fn heads_that_are_none(rt: HostRuntime) -> Result<(), Fail> {
-    assert_eq!(rt; first_of(rt.alloc(), Taken::AsFragments, &NO_HEADS)?, None);
-    Ok(())
-}
-
 #[test]
 fn the_gateway_answers_itself(rt: HostRuntime) -> Result<(), Fail> {
     let rows: [Row<'_>; 4] = [
@@ -531,20 +526,6 @@ fn the_gateway_answers_itself(rt: HostRuntime) -> Result<(), Fail> {
     ];
     assert_eq!(rt;
         first_by(rt.alloc(), b"/a", Taken::AsFragments, &rows)?,
-        None
-    );
-    Ok(())
-}
-
-static REFUSED: [Row<'static>; 2] = [
-    (HEADERS, WHOLE, 201, GET, Told::Failed(Fault::Stream(7))),
-    (HEADERS, WHOLE, 201, GET, Told::Failed(Fault::Discarded)),
-];
-
-#[test]
-fn the_101st_stream_is_refused(rt: HostRuntime) -> Result<(), Fail> {
-    assert_eq!(rt;
-        first_of(rt.alloc(), Taken::BehindAHundred, &REFUSED)?,
         None
     );
     Ok(())

@@ -116,104 +116,104 @@ pub(crate) fn open_all(
     Ok(())
 }
 
-#[test]
-fn the_first_frame_has_settings(rt: HostRuntime) {
-    let rows: [Row<'_>; 5] = [
-        (6, 0, 0, b"12345678", PROTOCOL_ERROR),
-        (4, 1, 0, b"", PROTOCOL_ERROR),
-        SETTINGS,
-        (6, 0, 0, b"12345678", Judged::Ping(b"12345678")),
-        (6, 1, 0, b"12345678", Judged::Ignored),
-    ];
-    assert_eq!(rt; first_that_differs_at_first(rt.alloc(), &rows), None);
-}
-
-/// Frames on streams where they may not stand, and where they may.
-static PLACES: [Row<'static>; 10] = [
-    SETTINGS,
-    (4, 0, 1, b"", PROTOCOL_ERROR),
-    (6, 0, 1, b"12345678", PROTOCOL_ERROR),
-    (7, 0, 1, b"12345678", PROTOCOL_ERROR),
-    (2, 0, 0, b"12345", PROTOCOL_ERROR),
-    (3, 0, 0, b"1234", PROTOCOL_ERROR),
-    (5, 0, 1, b"1234", PROTOCOL_ERROR),
-    (2, 0, 1, b"12345", Judged::Ignored),
-    (7, 0, 0, b"12345678", Judged::Ignored),
-    (200, 255, 77, b"123", Judged::Ignored),
-];
-
-#[test]
-fn frames_stand_where_they_may(rt: HostRuntime) {
-    assert_eq!(rt; first_that_differs_at_first(rt.alloc(), &PLACES), None);
-}
-
-static LENGTHS: [Row<'static>; 8] = [
-    SETTINGS,
-    (6, 0, 0, b"1234567", FRAME_SIZE_ERROR),
-    (2, 0, 1, b"1234", FRAME_SIZE_ERROR),
-    (3, 0, 1, b"12345", FRAME_SIZE_ERROR),
-    (4, 0, 0, b"12345", FRAME_SIZE_ERROR),
-    (4, 1, 0, b"123456", FRAME_SIZE_ERROR),
-    (7, 0, 0, b"1234567", FRAME_SIZE_ERROR),
-    (8, 0, 0, b"12345", FRAME_SIZE_ERROR),
-];
-
-#[test]
-fn payloads_have_their_lengths(rt: HostRuntime) {
-    assert_eq!(rt; first_that_differs_at_first(rt.alloc(), &LENGTHS), None);
-}
-
-static VALUES: [Row<'static>; 10] = [
-    (4, 0, 0, &[0, 2, 0, 0, 0, 2], PROTOCOL_ERROR),
-    (4, 0, 0, &[0, 2, 0, 0, 0, 1], Judged::Settings(UNCHANGED)),
-    (4, 0, 0, &[0, 4, 128, 0, 0, 0], FLOW_CONTROL_ERROR),
-    (4, 0, 0, &[0, 5, 0, 0, 0, 1], PROTOCOL_ERROR),
-    (4, 0, 0, &[0, 5, 0, 0, 63, 255], PROTOCOL_ERROR),
-    (4, 0, 0, &[0, 5, 0, 0, 64, 0], Judged::Settings(UNCHANGED)),
+/// Tables: what each shows, and its rows, on a connection on which nothing came.
+static TABLES: [(&str, &[Row]); 6] = [
     (
-        4,
-        0,
-        0,
-        &[0, 5, 0, 255, 255, 255],
-        Judged::Settings(UNCHANGED),
+        "the first frame has settings",
+        &[
+            (6, 0, 0, b"12345678", PROTOCOL_ERROR),
+            (4, 1, 0, b"", PROTOCOL_ERROR),
+            SETTINGS,
+            (6, 0, 0, b"12345678", Judged::Ping(b"12345678")),
+            (6, 1, 0, b"12345678", Judged::Ignored),
+        ],
     ),
-    (4, 0, 0, &[0, 5, 1, 0, 0, 0], PROTOCOL_ERROR),
-    (4, 0, 0, &[0, 4, 0, 0, 0, 10], Judged::Settings(TO_TEN)),
+    // Frames on streams where they may not stand, and where they may.
     (
-        4,
-        0,
-        0,
-        &[0, 4, 127, 255, 255, 255],
-        Judged::Settings(TO_THE_MOST),
+        "frames stand where they may",
+        &[
+            SETTINGS,
+            (4, 0, 1, b"", PROTOCOL_ERROR),
+            (6, 0, 1, b"12345678", PROTOCOL_ERROR),
+            (7, 0, 1, b"12345678", PROTOCOL_ERROR),
+            (2, 0, 0, b"12345", PROTOCOL_ERROR),
+            (3, 0, 0, b"1234", PROTOCOL_ERROR),
+            (5, 0, 1, b"1234", PROTOCOL_ERROR),
+            (2, 0, 1, b"12345", Judged::Ignored),
+            (7, 0, 0, b"12345678", Judged::Ignored),
+            (200, 255, 77, b"123", Judged::Ignored),
+        ],
+    ),
+    (
+        "payloads have their lengths",
+        &[
+            SETTINGS,
+            (6, 0, 0, b"1234567", FRAME_SIZE_ERROR),
+            (2, 0, 1, b"1234", FRAME_SIZE_ERROR),
+            (3, 0, 1, b"12345", FRAME_SIZE_ERROR),
+            (4, 0, 0, b"12345", FRAME_SIZE_ERROR),
+            (4, 1, 0, b"123456", FRAME_SIZE_ERROR),
+            (7, 0, 0, b"1234567", FRAME_SIZE_ERROR),
+            (8, 0, 0, b"12345", FRAME_SIZE_ERROR),
+        ],
+    ),
+    (
+        "settings are taken",
+        &[
+            (4, 0, 0, &[0, 2, 0, 0, 0, 2], PROTOCOL_ERROR),
+            (4, 0, 0, &[0, 2, 0, 0, 0, 1], Judged::Settings(UNCHANGED)),
+            (4, 0, 0, &[0, 4, 128, 0, 0, 0], FLOW_CONTROL_ERROR),
+            (4, 0, 0, &[0, 5, 0, 0, 0, 1], PROTOCOL_ERROR),
+            (4, 0, 0, &[0, 5, 0, 0, 63, 255], PROTOCOL_ERROR),
+            (4, 0, 0, &[0, 5, 0, 0, 64, 0], Judged::Settings(UNCHANGED)),
+            (
+                4,
+                0,
+                0,
+                &[0, 5, 0, 255, 255, 255],
+                Judged::Settings(UNCHANGED),
+            ),
+            (4, 0, 0, &[0, 5, 1, 0, 0, 0], PROTOCOL_ERROR),
+            (4, 0, 0, &[0, 4, 0, 0, 0, 10], Judged::Settings(TO_TEN)),
+            (
+                4,
+                0,
+                0,
+                &[0, 4, 127, 255, 255, 255],
+                Judged::Settings(TO_THE_MOST),
+            ),
+        ],
+    ),
+    (
+        "windows grow",
+        &[
+            SETTINGS,
+            (8, 0, 0, &[0, 0, 0, 0], PROTOCOL_ERROR),
+            (8, 0, 0, &[127, 255, 0, 1], FLOW_CONTROL_ERROR),
+            (8, 0, 0, &[127, 255, 0, 0], Judged::Granted),
+            (8, 0, 0, &[0, 0, 0, 1], FLOW_CONTROL_ERROR),
+        ],
+    ),
+    (
+        "idle streams are left alone",
+        &[
+            SETTINGS,
+            (3, 0, 1, b"1234", PROTOCOL_ERROR),
+            (8, 0, 1, &[0, 0, 0, 1], PROTOCOL_ERROR),
+            (8, 0, 2, &[0, 0, 0, 1], PROTOCOL_ERROR),
+        ],
     ),
 ];
 
 #[test]
-fn settings_are_taken(rt: HostRuntime) {
-    assert_eq!(rt; first_that_differs_at_first(rt.alloc(), &VALUES), None);
-}
-
-#[test]
-fn windows_grow(rt: HostRuntime) {
-    let rows: [Row<'_>; 5] = [
-        SETTINGS,
-        (8, 0, 0, &[0, 0, 0, 0], PROTOCOL_ERROR),
-        (8, 0, 0, &[127, 255, 0, 1], FLOW_CONTROL_ERROR),
-        (8, 0, 0, &[127, 255, 0, 0], Judged::Granted),
-        (8, 0, 0, &[0, 0, 0, 1], FLOW_CONTROL_ERROR),
-    ];
-    assert_eq!(rt; first_that_differs_at_first(rt.alloc(), &rows), None);
-}
-
-#[test]
-fn idle_streams_are_left_alone(rt: HostRuntime) {
-    let rows: [Row<'_>; 4] = [
-        SETTINGS,
-        (3, 0, 1, b"1234", PROTOCOL_ERROR),
-        (8, 0, 1, &[0, 0, 0, 1], PROTOCOL_ERROR),
-        (8, 0, 2, &[0, 0, 0, 1], PROTOCOL_ERROR),
-    ];
-    assert_eq!(rt; first_that_differs_at_first(rt.alloc(), &rows), None);
+fn frames_are_judged_as_they_should(rt: HostRuntime) {
+    for (name, rows) in &TABLES {
+        assert_eq!(rt;
+            first_that_differs_at_first(rt.alloc(), rows),
+            None,
+            "{name}"
+        );
+    }
 }
 
 /// Windows of streams 3, 5 and 9 that grow or grow too large, and resets, beside frames on streams that aren't active any more.

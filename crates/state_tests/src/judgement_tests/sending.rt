@@ -195,98 +195,6 @@ fn first_that_differs(
     first_behind_opening(&mut connection, ended, rows)
 }
 
-static HEADS: [Row<'static>; 2] = [
-    (
-        Act::Head(false, false),
-        true,
-        &[Of::Streams(&[Fact::Of(1, Seen::HeadOut(false))])],
-    ),
-    (
-        Act::Head(true, true),
-        true,
-        &[Of::Streams(&[
-            Fact::Of(1, Seen::HeadOut(true)),
-            Fact::Stands(1, Standing::Opened(State::HalfClosedLocal)),
-        ])],
-    ),
-];
-
-static HEADS_BEHIND_ENDS: [Row<'static>; 1] = [(
-    Act::Head(true, true),
-    true,
-    &[Of::Streams(&[Fact::Stands(1, Standing::Opened(State::Closed))])],
-)];
-
-#[test]
-fn heads_go_out(rt: HostRuntime) -> Result<(), Fail> {
-    assert_eq!(rt; first_that_differs(&rt, false, &HEADS)?, None);
-    assert_eq!(rt; first_that_differs(&rt, true, &HEADS_BEHIND_ENDS)?, None);
-    Ok(())
-}
-
-static WINDOWS: [Row<'static>; 6] = [
-    (Act::Nothing, true, &[Of::Window(65535, 65535)]),
-    (
-        Act::Data(65534, false),
-        true,
-        &[
-            Of::Window(1, 65535),
-            Of::Streams(&[Fact::Of(1, Seen::Balance(-65534))]),
-            Of::WindowOn(1),
-        ],
-    ),
-    (Act::Data(2, false), false, &[]),
-    (Act::Data(1, false), true, &[]),
-    (Act::Data(1, false), false, &[]),
-    (
-        Act::Data(0, true),
-        true,
-        &[
-            Of::Window(0, 65535),
-            Of::Streams(&[Fact::Stands(1, Standing::Opened(State::HalfClosedLocal))]),
-        ],
-    ),
-];
-
-#[test]
-fn data_takes_windows(rt: HostRuntime) -> Result<(), Fail> {
-    assert_eq!(rt; first_that_differs(&rt, false, &WINDOWS)?, None);
-    Ok(())
-}
-
-static RESETS: [Row<'static>; 1] = [(
-    Act::Reset,
-    true,
-    &[Of::Streams(&[
-        Fact::Stands(1, Standing::Opened(State::ResetByUs)),
-        Fact::Active(0),
-        Fact::Highest(1),
-    ])],
-)];
-
-#[test]
-fn resets_end_streams(rt: HostRuntime) -> Result<(), Fail> {
-    assert_eq!(rt; first_that_differs(&rt, true, &RESETS)?, None);
-    Ok(())
-}
-
-static GIVEN_BACK: [Row<'static>; 4] = [
-    (Act::Come(4, 0, b""), true, &[]),
-    (Act::Come(0, 1, b"abcde"), true, &[Of::Room(65530)]),
-    (Act::GiveBack(5), true, &[Of::Room(65535)]),
-    (
-        Act::GiveBackOn(3),
-        true,
-        &[Of::Streams(&[Fact::Of(1, Seen::Room(65533))])],
-    ),
-];
-
-#[test]
-fn octets_are_given_back(rt: HostRuntime) -> Result<(), Fail> {
-    assert_eq!(rt; first_that_differs(&rt, false, &GIVEN_BACK)?, None);
-    Ok(())
-}
-
 /// The gateway's own reply behind a final head.
 const REPLIED: Course = Course {
     begun: true,
@@ -299,26 +207,117 @@ const REPLIED: Course = Course {
     }),
 };
 
-static FAILURES: [Row<'static>; 3] = [
+/// Tables: what each shows, whether its client has ended the stream, and its rows.
+static TABLES: [(&str, bool, &[Row]); 6] = [
     (
-        Act::Nothing,
-        true,
-        &[Of::Served(1, true), Of::Served(3, false)],
+        "heads go out",
+        false,
+        &[
+            (
+                Act::Head(false, false),
+                true,
+                &[Of::Streams(&[Fact::Of(1, Seen::HeadOut(false))])],
+            ),
+            (
+                Act::Head(true, true),
+                true,
+                &[Of::Streams(&[
+                    Fact::Of(1, Seen::HeadOut(true)),
+                    Fact::Stands(1, Standing::Opened(State::HalfClosedLocal)),
+                ])],
+            ),
+        ],
     ),
-    (Act::Head(true, false), true, &[]),
     (
-        Act::Fail,
+        "heads go out behind ends",
+        true,
+        &[(
+            Act::Head(true, true),
+            true,
+            &[Of::Streams(&[Fact::Stands(1, Standing::Opened(State::Closed))])],
+        )],
+    ),
+    (
+        "data takes windows",
+        false,
+        &[
+            (Act::Nothing, true, &[Of::Window(65535, 65535)]),
+            (
+                Act::Data(65534, false),
+                true,
+                &[
+                    Of::Window(1, 65535),
+                    Of::Streams(&[Fact::Of(1, Seen::Balance(-65534))]),
+                    Of::WindowOn(1),
+                ],
+            ),
+            (Act::Data(2, false), false, &[]),
+            (Act::Data(1, false), true, &[]),
+            (Act::Data(1, false), false, &[]),
+            (
+                Act::Data(0, true),
+                true,
+                &[
+                    Of::Window(0, 65535),
+                    Of::Streams(&[Fact::Stands(1, Standing::Opened(State::HalfClosedLocal))]),
+                ],
+            ),
+        ],
+    ),
+    (
+        "resets end streams",
+        true,
+        &[(
+            Act::Reset,
+            true,
+            &[Of::Streams(&[
+                Fact::Stands(1, Standing::Opened(State::ResetByUs)),
+                Fact::Active(0),
+                Fact::Highest(1),
+            ])],
+        )],
+    ),
+    (
+        "octets are given back",
+        false,
+        &[
+            (Act::Come(4, 0, b""), true, &[]),
+            (Act::Come(0, 1, b"abcde"), true, &[Of::Room(65530)]),
+            (Act::GiveBack(5), true, &[Of::Room(65535)]),
+            (
+                Act::GiveBackOn(3),
+                true,
+                &[Of::Streams(&[Fact::Of(1, Seen::Room(65533))])],
+            ),
+        ],
+    ),
+    (
+        "answers fail",
         true,
         &[
-            Of::Served(1, false),
-            Of::Streams(&[Fact::Of(1, Seen::With(REPLIED))]),
+            (
+                Act::Nothing,
+                true,
+                &[Of::Served(1, true), Of::Served(3, false)],
+            ),
+            (Act::Head(true, false), true, &[]),
+            (
+                Act::Fail,
+                true,
+                &[
+                    Of::Served(1, false),
+                    Of::Streams(&[Fact::Of(1, Seen::With(REPLIED))]),
+                ],
+            ),
         ],
     ),
 ];
 
 #[test]
-fn answers_fail(rt: HostRuntime) -> Result<(), Fail> {
-    assert_eq!(rt; first_that_differs(&rt, true, &FAILURES)?, None);
+fn what_goes_out_leaves_what_it_should(rt: HostRuntime) -> Result<(), Fail> {
+    for (name, ended, rows) in &TABLES {
+        assert_eq!(rt; first_that_differs(&rt, *ended, rows)?, None, "{name}");
+    }
     Ok(())
 }
 

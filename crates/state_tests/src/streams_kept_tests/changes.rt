@@ -132,83 +132,6 @@ fn first_that_differs(alloc: Global, rows: &[Row<'_>]) -> Result<Option<usize>, 
     first_on(&mut streams, rows)
 }
 
-static OPENED: [Row<'static>; 7] = [
-    (1, Act::Open(false), true, &[]),
-    (3, Act::Open(true), true, &[]),
-    (
-        7,
-        Act::Open(false),
-        true,
-        &[
-            Fact::Active(3),
-            Fact::Count(3),
-            Fact::Highest(7),
-            Fact::Stands(3, Standing::Opened(State::HalfClosedRemote)),
-            Fact::Stands(5, Standing::Skipped),
-            Fact::Stands(9, Standing::Idle),
-        ],
-    ),
-    (3, Act::Close(true), true, &[]),
-    (3, Act::Close(false), false, &[]),
-    (
-        1,
-        Act::Close(false),
-        true,
-        &[
-            Fact::Active(1),
-            Fact::Count(3),
-            Fact::Judged(3, Kind::Data, Verdict::Discard),
-            Fact::Judged(3, Kind::Headers, Verdict::Discard),
-            Fact::Judged(3, Kind::RstStream, Verdict::Discard),
-            Fact::Judged(3, Kind::WindowUpdate, Verdict::Discard),
-            Fact::Stands(1, Standing::Opened(State::Closed)),
-            Fact::Stands(0, Standing::WholeConnection),
-        ],
-    ),
-    (
-        9,
-        Act::Open(false),
-        true,
-        &[Fact::Kept(7, true), Fact::Kept(9, true)],
-    ),
-];
-
-#[test]
-fn streams_open_and_close(rt: HostRuntime) -> Result<(), Fail> {
-    assert_eq!(rt; Streams::new(rt.alloc()).highest(), 0);
-    assert_eq!(rt; first_that_differs(rt.alloc(), &OPENED)?, None);
-    Ok(())
-}
-
-static GRANTED: [Row<'static>; 5] = [
-    (5, Act::Open(false), true, &[]),
-    (9, Act::Open(false), true, &[]),
-    (
-        9,
-        Act::Grant(2147418112),
-        true,
-        &[Fact::Shifts(65535, false), Fact::Shifts(65536, true)],
-    ),
-    (7, Act::Grant(1), false, &[]),
-    (
-        9,
-        Act::Close(false),
-        true,
-        &[
-            Fact::Shifts(65536, false),
-            Fact::Of(5, Seen::Balance(0)),
-            Fact::Of(5, Seen::Room(65535)),
-            Fact::Of(5, Seen::At(State::Open)),
-        ],
-    ),
-];
-
-#[test]
-fn octets_are_granted(rt: HostRuntime) -> Result<(), Fail> {
-    assert_eq!(rt; first_that_differs(rt.alloc(), &GRANTED)?, None);
-    Ok(())
-}
-
 /// The course behind 16,384 octets of a body.
 const TAKEN: Course = Course {
     begun: true,
@@ -217,123 +140,6 @@ const TAKEN: Course = Course {
     over: false,
     reply: None,
 };
-
-static CAME: [Row<'static>; 6] = [
-    (5, Act::Open(false), true, &[]),
-    (9, Act::Open(false), true, &[]),
-    (5, Act::Take(65535, false), true, &[]),
-    (5, Act::Take(1, false), false, &[]),
-    (5, Act::Take(0, true), true, &[]),
-    (
-        9,
-        Act::Take(16384, false),
-        true,
-        &[
-            Fact::Stands(5, Standing::Opened(State::HalfClosedRemote)),
-            Fact::Of(9, Seen::Room(49151)),
-            Fact::Of(9, Seen::With(TAKEN)),
-            Fact::Of(9, Seen::At(State::Open)),
-            Fact::Of(9, Seen::HeadOut(false)),
-            Fact::Of(9, Seen::EndedByClient(false)),
-        ],
-    ),
-];
-
-#[test]
-fn octets_are_taken(rt: HostRuntime) -> Result<(), Fail> {
-    assert_eq!(rt; first_that_differs(rt.alloc(), &CAME)?, None);
-    Ok(())
-}
-
-static GOES_ON: [Row<'static>; 5] = [
-    (5, Act::Open(false), true, &[]),
-    (
-        5,
-        Act::Head(false, false),
-        true,
-        &[Fact::Of(5, Seen::HeadOut(false))],
-    ),
-    (
-        5,
-        Act::Head(true, false),
-        true,
-        &[
-            Fact::Of(5, Seen::HeadOut(true)),
-            Fact::Stands(5, Standing::Opened(State::Open)),
-            Fact::Of(5, Seen::EndedByGateway(false)),
-        ],
-    ),
-    (
-        5,
-        Act::Data(0, true),
-        true,
-        &[
-            Fact::Of(5, Seen::EndedByGateway(true)),
-            Fact::Stands(5, Standing::Opened(State::HalfClosedLocal)),
-        ],
-    ),
-    (7, Act::Head(true, true), false, &[]),
-];
-
-#[test]
-fn responses_end_before_requests(rt: HostRuntime) -> Result<(), Fail> {
-    assert_eq!(rt; first_that_differs(rt.alloc(), &GOES_ON)?, None);
-    Ok(())
-}
-
-static ENDS: [Row<'static>; 5] = [
-    (5, Act::Open(true), true, &[]),
-    (
-        5,
-        Act::Head(true, true),
-        true,
-        &[
-            Fact::Stands(5, Standing::Opened(State::Closed)),
-            Fact::Active(0),
-        ],
-    ),
-    (7, Act::Open(true), true, &[]),
-    (7, Act::Head(true, false), true, &[]),
-    (
-        7,
-        Act::Data(100, true),
-        true,
-        &[Fact::Stands(7, Standing::Opened(State::Closed))],
-    ),
-];
-
-#[test]
-fn responses_end_streams(rt: HostRuntime) -> Result<(), Fail> {
-    assert_eq!(rt; first_that_differs(rt.alloc(), &ENDS)?, None);
-    Ok(())
-}
-
-static USED: [Row<'static>; 8] = [
-    (5, Act::Open(false), true, &[]),
-    (5, Act::Data(16384, false), true, &[]),
-    (5, Act::Data(1, false), true, &[]),
-    (
-        5,
-        Act::GiveBack(1000),
-        true,
-        &[
-            Fact::Of(5, Seen::Balance(-16385)),
-            Fact::Of(5, Seen::Room(66535)),
-            Fact::Of(5, Seen::With(BEGUN)),
-            Fact::Of(5, Seen::At(State::Open)),
-        ],
-    ),
-    (5, Act::Data(2147467262, false), true, &[]),
-    (5, Act::Data(1, false), false, &[]),
-    (5, Act::GiveBack(2147417112), true, &[]),
-    (5, Act::GiveBack(1), false, &[]),
-];
-
-#[test]
-fn windows_are_used_and_given_back(rt: HostRuntime) -> Result<(), Fail> {
-    assert_eq!(rt; first_that_differs(rt.alloc(), &USED)?, None);
-    Ok(())
-}
 
 /// The gateway's own reply before a final head.
 const REPLIED: Course = Course {
@@ -347,30 +153,208 @@ const REPLIED: Course = Course {
     }),
 };
 
-static FAILED: [Row<'static>; 5] = [
+/// Tables: what each shows, and its rows, where nothing was opened before.
+static TABLES: [(&str, &[Row]); 7] = [
     (
-        5,
-        Act::Open(true),
-        true,
-        &[Fact::Served(5, true), Fact::Served(7, false)],
-    ),
-    (5, Act::Fail, true, &[Fact::Served(5, false)]),
-    (5, Act::Head(true, false), true, &[]),
-    (
-        5,
-        Act::Fail,
-        true,
+        "streams open and close",
         &[
-            Fact::Of(5, Seen::With(REPLIED)),
-            Fact::Of(5, Seen::Replied(true)),
+            (1, Act::Open(false), true, &[]),
+            (3, Act::Open(true), true, &[]),
+            (
+                7,
+                Act::Open(false),
+                true,
+                &[
+                    Fact::Active(3),
+                    Fact::Count(3),
+                    Fact::Highest(7),
+                    Fact::Stands(3, Standing::Opened(State::HalfClosedRemote)),
+                    Fact::Stands(5, Standing::Skipped),
+                    Fact::Stands(9, Standing::Idle),
+                ],
+            ),
+            (3, Act::Close(true), true, &[]),
+            (3, Act::Close(false), false, &[]),
+            (
+                1,
+                Act::Close(false),
+                true,
+                &[
+                    Fact::Active(1),
+                    Fact::Count(3),
+                    Fact::Judged(3, Kind::Data, Verdict::Discard),
+                    Fact::Judged(3, Kind::Headers, Verdict::Discard),
+                    Fact::Judged(3, Kind::RstStream, Verdict::Discard),
+                    Fact::Judged(3, Kind::WindowUpdate, Verdict::Discard),
+                    Fact::Stands(1, Standing::Opened(State::Closed)),
+                    Fact::Stands(0, Standing::WholeConnection),
+                ],
+            ),
+            (
+                9,
+                Act::Open(false),
+                true,
+                &[Fact::Kept(7, true), Fact::Kept(9, true)],
+            ),
         ],
     ),
-    (5, Act::Data(9, true), true, &[Fact::Served(5, false)]),
+    (
+        "octets are granted",
+        &[
+            (5, Act::Open(false), true, &[]),
+            (9, Act::Open(false), true, &[]),
+            (
+                9,
+                Act::Grant(2147418112),
+                true,
+                &[Fact::Shifts(65535, false), Fact::Shifts(65536, true)],
+            ),
+            (7, Act::Grant(1), false, &[]),
+            (
+                9,
+                Act::Close(false),
+                true,
+                &[
+                    Fact::Shifts(65536, false),
+                    Fact::Of(5, Seen::Balance(0)),
+                    Fact::Of(5, Seen::Room(65535)),
+                    Fact::Of(5, Seen::At(State::Open)),
+                ],
+            ),
+        ],
+    ),
+    (
+        "octets are taken",
+        &[
+            (5, Act::Open(false), true, &[]),
+            (9, Act::Open(false), true, &[]),
+            (5, Act::Take(65535, false), true, &[]),
+            (5, Act::Take(1, false), false, &[]),
+            (5, Act::Take(0, true), true, &[]),
+            (
+                9,
+                Act::Take(16384, false),
+                true,
+                &[
+                    Fact::Stands(5, Standing::Opened(State::HalfClosedRemote)),
+                    Fact::Of(9, Seen::Room(49151)),
+                    Fact::Of(9, Seen::With(TAKEN)),
+                    Fact::Of(9, Seen::At(State::Open)),
+                    Fact::Of(9, Seen::HeadOut(false)),
+                    Fact::Of(9, Seen::EndedByClient(false)),
+                ],
+            ),
+        ],
+    ),
+    (
+        "responses end before requests",
+        &[
+            (5, Act::Open(false), true, &[]),
+            (
+                5,
+                Act::Head(false, false),
+                true,
+                &[Fact::Of(5, Seen::HeadOut(false))],
+            ),
+            (
+                5,
+                Act::Head(true, false),
+                true,
+                &[
+                    Fact::Of(5, Seen::HeadOut(true)),
+                    Fact::Stands(5, Standing::Opened(State::Open)),
+                    Fact::Of(5, Seen::EndedByGateway(false)),
+                ],
+            ),
+            (
+                5,
+                Act::Data(0, true),
+                true,
+                &[
+                    Fact::Of(5, Seen::EndedByGateway(true)),
+                    Fact::Stands(5, Standing::Opened(State::HalfClosedLocal)),
+                ],
+            ),
+            (7, Act::Head(true, true), false, &[]),
+        ],
+    ),
+    (
+        "responses end streams",
+        &[
+            (5, Act::Open(true), true, &[]),
+            (
+                5,
+                Act::Head(true, true),
+                true,
+                &[
+                    Fact::Stands(5, Standing::Opened(State::Closed)),
+                    Fact::Active(0),
+                ],
+            ),
+            (7, Act::Open(true), true, &[]),
+            (7, Act::Head(true, false), true, &[]),
+            (
+                7,
+                Act::Data(100, true),
+                true,
+                &[Fact::Stands(7, Standing::Opened(State::Closed))],
+            ),
+        ],
+    ),
+    (
+        "windows are used and given back",
+        &[
+            (5, Act::Open(false), true, &[]),
+            (5, Act::Data(16384, false), true, &[]),
+            (5, Act::Data(1, false), true, &[]),
+            (
+                5,
+                Act::GiveBack(1000),
+                true,
+                &[
+                    Fact::Of(5, Seen::Balance(-16385)),
+                    Fact::Of(5, Seen::Room(66535)),
+                    Fact::Of(5, Seen::With(BEGUN)),
+                    Fact::Of(5, Seen::At(State::Open)),
+                ],
+            ),
+            (5, Act::Data(2147467262, false), true, &[]),
+            (5, Act::Data(1, false), false, &[]),
+            (5, Act::GiveBack(2147417112), true, &[]),
+            (5, Act::GiveBack(1), false, &[]),
+        ],
+    ),
+    (
+        "answers fail once",
+        &[
+            (
+                5,
+                Act::Open(true),
+                true,
+                &[Fact::Served(5, true), Fact::Served(7, false)],
+            ),
+            (5, Act::Fail, true, &[Fact::Served(5, false)]),
+            (5, Act::Head(true, false), true, &[]),
+            (
+                5,
+                Act::Fail,
+                true,
+                &[
+                    Fact::Of(5, Seen::With(REPLIED)),
+                    Fact::Of(5, Seen::Replied(true)),
+                ],
+            ),
+            (5, Act::Data(9, true), true, &[Fact::Served(5, false)]),
+        ],
+    ),
 ];
 
 #[test]
-fn answers_fail_once(rt: HostRuntime) -> Result<(), Fail> {
-    assert_eq!(rt; first_that_differs(rt.alloc(), &FAILED)?, None);
+fn streams_change_as_they_should(rt: HostRuntime) -> Result<(), Fail> {
+    assert_eq!(rt; Streams::new(rt.alloc()).highest(), 0);
+    for (name, rows) in &TABLES {
+        assert_eq!(rt; first_that_differs(rt.alloc(), rows)?, None, "{name}");
+    }
     Ok(())
 }
 

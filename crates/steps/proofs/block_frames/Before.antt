@@ -5,7 +5,7 @@ use Rattle.std.specs.List.{list_all}
 use Rattle.std.proofs.lemmas.Bool.{and_parts}
 use Rattle.model.specs.Frames.{Frame, settings_kind, is_ack, goaway, no_error}
 use Rattle.model.specs.Setup.{Setup}
-use Rattle.model.specs.StreamStates.{most_streams}
+use Rattle.model.specs.Limits.{most_streams}
 use Rattle.model.specs.Tables.{Table}
 use Rattle.model.specs.Tapes.{Noted}
 use Rattle.model.specs.Tapes.Entry.{Came}

@@ -59,13 +59,14 @@ use Rattle.relay.proofs.Resets.{reset_view, reset_paid}
 use Rattle.steps.proofs.paying.Paying.{pays_control}
 use Rattle.steps.specs.declared.paying.control.Control.TheVariants as control
 use Rattle.std.proofs.lemmas.Bool.{ltb-false, le-ltb}
-use Rattle.model.specs.Admission.{most_untaken}
+use Rattle.model.specs.Limits.{most_untaken}
 use Rattle.upstreams.specs.Connections.{lives}
 use Rattle.steps.specs.Comings.{ComesFrom}
 use Rattle.steps.specs.Inputs.Input.{OfFrame}
 use Rattle.steps.specs.Stopping.{EndsFrom}
 use Rattle.steps.proofs.Calming.{calmed_as, calm_ends, calm_behind, calm_comes}
-use Rattle.steps.specs.block_frames.Following.{offers_if, held_if, marks_if, dropped_if, dropped_by, followed, forgotten, farewell_frames, with_farewell, put_farewell, IsCalmedBehind, WasFree}
+use Rattle.steps.specs.Forgetting.{forgotten}
+use Rattle.steps.specs.block_frames.Following.{offers_if, held_if, marks_if, dropped_if, dropped_by, followed, farewell_frames, with_farewell, put_farewell, IsCalmedBehind, WasFree}
 use Rattle.steps.proofs.block_frames.Lists.{offers_followed, offers_replied, offers_gone, held_by, held_gone}
 use Rattle.steps.proofs.block_frames.Before.{ready, box_there, is_taken, leads_there}
 

@@ -5,7 +5,7 @@ use Rattle.model.specs.Frames.{Frame}
 use Rattle.model.specs.Logs.{Output}
 use Rattle.model.specs.Setup.{Setup}
 use Rattle.model.specs.Tables.{Table}
-use Rattle.model.specs.StreamStates.{most_streams}
+use Rattle.model.specs.Limits.{most_streams, most_untaken}
 use Rattle.model.specs.Tapes.{Noted}
 use Rattle.model.specs.Tapes.Entry.{Came}
 use Rattle.model.specs.Causes.{Cause}
@@ -42,7 +42,6 @@ use Rattle.relay.proofs.Coming.{outside_of, inbound_behind}
 use Rattle.relay.proofs.Waits.{behind_rows}
 use Rattle.steps.specs.Closings.{IsAbout}
 use Rattle.steps.proofs.Closings.{about_changed, about_then, frame_served}
-use Rattle.model.specs.Admission.{most_untaken}
 use Rattle.steps.specs.Comings.{ComesFrom}
 use Rattle.steps.specs.Inputs.Input.{OfFrame}
 use Rattle.steps.specs.block_frames.Following.{followed, dropped_by, farewell_behind, farewell_frames, with_farewell, put_farewell, IsCalmedBehind}
@@ -182,7 +181,7 @@ module _ (setup : Setup) (old : View) (rest : IsAtRest old) (frame : Frame) (mid
             (subst (λ (r : Due). Brings setup old square outputs (Came noted) target (record square { owed = farewell_frames farewell_left; due = r; shared = dropped }) out_then) (sym acted.goes.0)
             (subst (λ n. Brings setup old square outputs (Came noted) target (record square { owed = farewell_frames farewell_left; shared = n }) out_then) (sym acted.goes.2)
             (subst (λ (l : Option ℕ). Brings setup old square outputs (Came noted) target (record square { owed = farewell_frames l; shared = waiting_for id old }) out_then) (sym acted.goes.1)
-            (subst (λ (i : Inbound). Brings setup old square outputs (Came noted) (record (Rattle.steps.specs.block_frames.Following.forgotten id (record old { inbound = i })) { untaken = (with_farewell last old).untaken + length (Rattle.model.specs.Frames.spell (rst_stream id code)) }) (record square { shared = waiting_for id old }) out_then) (sym same)
+            (subst (λ (i : Inbound). Brings setup old square outputs (Came noted) (record (Rattle.steps.specs.Forgetting.forgotten id (record old { inbound = i })) { untaken = (with_farewell last old).untaken + length (Rattle.model.specs.Frames.spell (rst_stream id code)) }) (record square { shared = waiting_for id old }) out_then) (sym same)
             (brings_reset setup old rest noted is.next of mild is.is_noted is.read (block_failed setup (book_of (outside_of old.untaken) old.inbound) noted of few_rows (errors.Fault.Stream code) fault) last code
             (block_owes_at_fault setup (book_of (outside_of old.untaken) old.inbound) noted of few_rows (errors.Fault.Stream code) refl fault ∙ ap (λ (fs : List Frame). fs ++ rst_stream id code ∷ []) (farewell same_rows))
             (not_to_open setup old rest noted is.next of mild is.is_noted is.read (errors.Fault.Stream code) fault) small (free_same last acted.few) outputs))))));
@@ -203,9 +202,9 @@ module _ (setup : Setup) (old : View) (rest : IsAtRest old) (frame : Frame) (mid
           out_then = Rattle.model.specs.Tapes.put (put_farewell last outputs) (Rattle.model.specs.Logs.Output.ToClient (Rattle.model.specs.Frames.spell (rst_stream id code)))
 
           target : View
-          target = record (Rattle.steps.specs.block_frames.Following.forgotten id mid_view) { untaken = (with_farewell last old).untaken + length (Rattle.model.specs.Frames.spell (rst_stream id code)) }
+          target = record (Rattle.steps.specs.Forgetting.forgotten id mid_view) { untaken = (with_farewell last old).untaken + length (Rattle.model.specs.Frames.spell (rst_stream id code)) }
 
-          untaken_same : (l : Option ℕ) → record (Rattle.steps.specs.block_frames.Following.forgotten id mid_view) { untaken = (with_farewell l mid_view).untaken + length (Rattle.model.specs.Frames.spell (rst_stream id code)) } ≡ record (Rattle.steps.specs.block_frames.Following.forgotten id mid_view) { untaken = (with_farewell l old).untaken + length (Rattle.model.specs.Frames.spell (rst_stream id code)) }
+          untaken_same : (l : Option ℕ) → record (Rattle.steps.specs.Forgetting.forgotten id mid_view) { untaken = (with_farewell l mid_view).untaken + length (Rattle.model.specs.Frames.spell (rst_stream id code)) } ≡ record (Rattle.steps.specs.Forgetting.forgotten id mid_view) { untaken = (with_farewell l old).untaken + length (Rattle.model.specs.Frames.spell (rst_stream id code)) }
           untaken_same None = refl
           untaken_same (Some n) = refl
 

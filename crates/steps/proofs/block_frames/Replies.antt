@@ -6,7 +6,7 @@ use Rattle.model.specs.Frames.{Frame, spell}
 use Rattle.model.specs.Logs.{Output}
 use Rattle.model.specs.Logs.Output.{ToClient}
 use Rattle.model.specs.Setup.{Setup}
-use Rattle.model.specs.StreamStates.{most_streams}
+use Rattle.model.specs.Limits.{most_streams, most_untaken}
 use Rattle.model.specs.Tapes.{Noted, put}
 use Rattle.model.specs.Tapes.Note.{Fields}
 use Rattle.model.specs.Tapes.Entry.{Came}
@@ -42,11 +42,11 @@ use Rattle.relay.specs.Rest.{IsAtRest, NoneCut}
 use Rattle.relay.specs.Bringing.{Brings}
 use Rattle.relay.proofs.Answered.{whole_gain, whole_owes, caused_by}
 use Rattle.relay.proofs.Coming.{outside_of, inbound_behind}
-use Rattle.model.specs.Admission.{most_untaken}
 use Rattle.steps.specs.Comings.{ComesFrom}
 use Rattle.steps.specs.Inputs.Input.{OfFrame}
 use Rattle.steps.specs.Stopping.{reset_marked}
-use Rattle.steps.specs.block_frames.Following.{followed, forgotten, dropped_by, farewell_behind, farewell_frames, with_farewell, put_farewell, IsCalmedBehind}
+use Rattle.steps.specs.Forgetting.{forgotten}
+use Rattle.steps.specs.block_frames.Following.{followed, dropped_by, farewell_behind, farewell_frames, with_farewell, put_farewell, IsCalmedBehind}
 use Rattle.steps.specs.block_frames.Acting.{IsReplied, IsReset, IsOffered, IsCutShort}
 use Rattle.steps.specs.block_frames.Taken.{IsBlockTaken}
 use Rattle.steps.specs.declared.block_frames.taking.BlockTaken.{BlockTaken}

@@ -8,7 +8,7 @@ use Rattle.model.specs.Messages.Item.{Block}
 use Rattle.model.specs.Frames.{Frame}
 use Rattle.model.specs.Logs.{Output}
 use Rattle.model.specs.Setup.{Setup}
-use Rattle.model.specs.StreamStates.{most_streams}
+use Rattle.model.specs.Limits.{most_streams}
 use Rattle.model.specs.Tapes.{Noted}
 use Rattle.model.specs.Tapes.Note.{Fields}
 use Rattle.model.specs.Tapes.Entry.{Came}

@@ -9,7 +9,8 @@ use Rattle.model.specs.Tapes.{Note, Noted}
 use Rattle.model.specs.Tapes.Note.{Fields}
 use Rattle.model.specs.Tapes.Entry.{Came}
 use Rattle.model.specs.Decoding.{Partial}
-use Rattle.model.specs.StreamStates.{Standing, most_streams, verdict}
+use Rattle.model.specs.StreamStates.{Standing, verdict}
+use Rattle.model.specs.Limits.{most_streams}
 use Rattle.model.specs.StreamStates.Standing.{WholeConnection, Opened, Idle, ServerIdle, Skipped, Beyond}
 use Rattle.model.specs.ErrorTable.{fault_of, judged}
 use Rattle.model.specs.Lifetimes.{opens_by, may_open}

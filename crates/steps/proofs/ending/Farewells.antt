@@ -29,7 +29,7 @@ use Rattle.relay.specs.Bringing.{AreOwn}
 use Rattle.relay.proofs.Bringing.{own_behind}
 use Rattle.relay.proofs.Performing.{put_behind}
 use Rattle.conduct.specs.Judging.{is_crowded_in}
-use Rattle.model.specs.Admission.{most_untaken}
+use Rattle.model.specs.Limits.{most_untaken}
 use Rattle.steps.specs.ending.Reasons.{code_in, IsBy}
 use Rattle.steps.specs.declared.ending.reason.Ending.{Ending}
 use Rattle.steps.specs.declared.ending.reason.Ending.TheVariants.{Gone, Breach as Broken, Frame as Wrong}

@@ -7,7 +7,7 @@ use Rattle.model.specs.Known.{Known}
 use Rattle.model.specs.Logs.{Output}
 use Rattle.model.specs.Logs.Act.{Close, CloseClient}
 use Rattle.model.specs.Setup.{Setup}
-use Rattle.model.specs.StreamStates.{most_streams}
+use Rattle.model.specs.Limits.{most_streams}
 use Rattle.model.specs.Tapes.{Entry}
 use Rattle.model.specs.Tapes.Entry.{Did}
 use Rattle.conduct.specs.Summary.{Summary}

@@ -3,7 +3,7 @@ use Rattle.std.proofs.Common.{◌≡◌, ℕ, Bool, true, false, ◌==◌, nat_l
 use Rattle.std.specs.Prelude.{option_map}
 use Rattle.std.specs.List.{list_any}
 use Rattle.std.proofs.lemmas.Bool.{eq-eqb}
-use Rattle.model.specs.Idle.{most_idle}
+use Rattle.model.specs.Limits.{most_idle}
 use Rattle.model.specs.Logs.{Output}
 use Rattle.model.specs.Logs.Act.{Close}
 use Rattle.model.specs.Logs.Output.{Does as Puts}

@@ -7,7 +7,7 @@ use Rattle.std.proofs.lemmas.Bool.Decides.{eqb_tells}
 use Rattle.model.specs.Causes.Cause.{BadAnswer}
 use Rattle.model.specs.Courses.{first_of_both}
 use Rattle.model.specs.Lifetimes.{may_open}
-use Rattle.model.specs.StreamStates.{most_streams}
+use Rattle.model.specs.Limits.{most_streams}
 use Rattle.conduct.specs.Summary.{Stream as Kept}
 use Rattle.conduct.specs.Judging.{is_over_in}
 use Rattle.conduct.specs.Rows.{Row, find, kept_in, slot_of}

@@ -1,7 +1,7 @@
 -- An upstream's answer goes on, or is whole: what comes of it is on offer. This performs.
 use Rattle.std.proofs.Common.{◌≡◌, ℕ, Bool, true, false, ◌==◌, nat_lt, List, [], ◌∷◌, map, Some, refl, sym, ◌∙◌, ap, subst, inl, inr, if◌then◌else◌}
 use Rattle.std.proofs.lemmas.Bool.Decides.{eqb_tells}
-use Rattle.model.specs.Idle.{most_idle}
+use Rattle.model.specs.Limits.{most_idle}
 use Rattle.model.specs.Logs.{Event, Output}
 use Rattle.model.specs.Setup.{Setup}
 use Rattle.model.specs.Tapes.Entry.{Happened}

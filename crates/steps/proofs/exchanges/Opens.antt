@@ -19,7 +19,7 @@ use Rattle.model.specs.Known.{Known}
 use Rattle.model.specs.Lifetimes.{opened, is_opened, is_active}
 use Rattle.model.specs.Courses.{items}
 use Rattle.model.specs.Offers.{is_to_head}
-use Rattle.model.specs.StreamStates.{most_streams}
+use Rattle.model.specs.Limits.{most_streams}
 use Rattle.model.specs.Available.{heard_by, IsIn}
 use Rattle.model.proofs.ItemLaws.{head_stays}
 use Rattle.model.proofs.ExchangeLaws.{unheard}

@@ -52,7 +52,7 @@ use Rattle.relay.specs.Bringing.{Course, OwnSegment, PerformsOwn}
 use Rattle.relay.proofs.Bringing.{own_behind, segments_then}
 use Rattle.relay.proofs.Performing.{tape_behind}
 use Rattle.relay.proofs.Resets.{reset_view, reset_paid, has_same}
-use Rattle.model.specs.Admission.{most_untaken}
+use Rattle.model.specs.Limits.{most_untaken}
 use Rattle.steps.specs.Comings.{Comes}
 use Rattle.steps.specs.Inputs.{Input}
 use Rattle.steps.specs.Stopping.{IsCalmed}

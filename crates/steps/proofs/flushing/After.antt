@@ -19,7 +19,8 @@ use Rattle.relay.specs.View.{View, waiting_for}
 use Rattle.upstreams.specs.Connections.{lives}
 use Rattle.relay.specs.Rest.{NoneCut, NoneDone}
 use Rattle.steps.specs.Closings.{IsAbout}
-use Rattle.steps.specs.flushing.Changes.{part_gone, ended, reset_gone, let_go, octets_of_frames, IsPartSent}
+use Rattle.steps.specs.Forgetting.{forgotten}
+use Rattle.steps.specs.flushing.Changes.{part_gone, ended, reset_gone, octets_of_frames, IsPartSent}
 use Rattle.steps.proofs.Closings.{about_changed, about_then, none_stays, served_same}
 use Rattle.steps.proofs.flushing.Rows.{has_same}
 
@@ -92,7 +93,7 @@ ended_stays u v id s = by (is_active v.inbound.rows id)
       | inr apart ↦ s.none_cut none_cut other stream (found_before id other v.offers.kept stream found apart)
     ]
 
-    by : (b : Bool) → Stays u (let_go id (if b then reset_gone id no_error v else v))
+    by : (b : Bool) → Stays u (forgotten id (if b then reset_gone id no_error v else v))
     by true = record { none_cut = none; opened = λ other. has_same id (Over true) v.inbound.rows other ∙ s.opened other; live = s.live; more = (let more = s.more in omega (arith, more)) }
     by false = record { none_cut = none; opened = s.opened; live = s.live; more = s.more }
 
@@ -119,8 +120,8 @@ sent_stays u outputs id ends v put_out sent = by ends (first sent)
 ended_about : (id : ℕ) (v : View) → IsAbout id v (ended id v)
 ended_about id v = by (is_active v.inbound.rows id)
   where
-    by : (b : Bool) → IsAbout id v (let_go id (if b then reset_gone id no_error v else v))
-    by true = about_changed id (Over true) v (let_go id (reset_gone id no_error v)) refl refl
+    by : (b : Bool) → IsAbout id v (forgotten id (if b then reset_gone id no_error v else v))
+    by true = about_changed id (Over true) v (forgotten id (reset_gone id no_error v)) refl refl
     by false = record { served = λ other apart. refl; live = refl }
 
 -- A part that goes, and the end of its stream, are about that alone.

@@ -21,7 +21,7 @@ use Rattle.streams_kept.specs.Asked.{has, is_active}
 use Rattle.policy.specs.Moves.{Move}
 use Rattle.relay.specs.View.{View, waiting_for, Pending, square}
 use Rattle.policy.specs.State.{State, tape_of}
-use Rattle.model.specs.Admission.{most_untaken}
+use Rattle.model.specs.Limits.{most_untaken}
 use Rattle.judgement.proofs.BlockRows.{active_closed}
 use Rattle.relay.specs.Bringing.{AreOwn, OwnSegment, PerformsOwn}
 use Rattle.relay.proofs.Bringing.{own_behind, segments_then}
@@ -31,7 +31,8 @@ use Rattle.steps.specs.Comings.{Follows}
 use Rattle.steps.specs.Stopping.{IsCalmed}
 use Rattle.steps.proofs.Calming.{calm_ends}
 use Rattle.steps.proofs.Following.{then_follows}
-use Rattle.steps.specs.flushing.Changes.{part_gone, let_go, unless_active, reset_gone, ended, put_at_end}
+use Rattle.steps.specs.Forgetting.{forgotten}
+use Rattle.steps.specs.flushing.Changes.{part_gone, unless_active, reset_gone, ended, put_at_end}
 use Rattle.steps.proofs.flushing.Rows.{over_told, active_own, not_flip}
 use Rattle.steps.proofs.flushing.Placed.{owing}
 
@@ -97,7 +98,7 @@ module _ (setup : Setup) (run : List Move) (s : State) (u : View) (id : ℕ) (sm
   reset_it : is_active v.inbound.rows id ≡ true → waiting_for id v ≡ waiting_for id u → nat_lt most_untaken v.untaken ≡ false
       → PerformsOwn setup v (owing (rst_stream id no_error ∷ []) 0) put_out (ended id v) (record square { shared = waiting_for id u }) (put_at_end id v put_out)
   reset_it on waits free =
-      subst (λ a. PerformsOwn setup v (owing (rst_stream id no_error ∷ []) 0) put_out (let_go id (if a then reset_gone id no_error v else v)) (record square { shared = waiting_for id u }) (if a then put put_out (ToClient (spell (rst_stream id no_error))) else put_out)) (sym on)
+      subst (λ a. PerformsOwn setup v (owing (rst_stream id no_error ∷ []) 0) put_out (forgotten id (if a then reset_gone id no_error v else v)) (record square { shared = waiting_for id u }) (if a then put put_out (ToClient (spell (rst_stream id no_error))) else put_out)) (sym on)
       (subst (λ n. PerformsOwn setup v (owing (rst_stream id no_error ∷ []) 0) put_out (reset_view v id no_error) (record square { shared = n }) (put put_out (ToClient (spell (rst_stream id no_error))))) (none_plus (waiting_for id v) ∙ waits)
       (reset_paid setup v (owing (rst_stream id no_error ∷ []) 0) [] id no_error refl refl (active_closed v.inbound.rows id on) reset_fits free put_out))
 
@@ -107,16 +108,16 @@ module _ (setup : Setup) (run : List Move) (s : State) (u : View) (id : ℕ) (sm
   ends_gone ends gone free = by ends (find u.inbound.rows id).ended_by_client refl gone.active free gone.segment
     where
       by : (b e : Bool) → (find u.inbound.rows id).ended_by_client ≡ e → is_active v.inbound.rows id ≡ not (e && b) → (b ≡ true → is_active v.inbound.rows id ≡ true → nat_lt most_untaken v.untaken ≡ false)
-          → OwnSegment setup run s outputs (if is_active v.inbound.rows id then v else let_go id v) (owing (if b && not e then rst_stream id no_error ∷ [] else []) (if is_active v.inbound.rows id then 0 else waiting_for id u)) put_out
+          → OwnSegment setup run s outputs (if is_active v.inbound.rows id then v else forgotten id v) (owing (if b && not e then rst_stream id no_error ∷ [] else []) (if is_active v.inbound.rows id then 0 else waiting_for id u)) put_out
           → OwnSegment setup run s outputs (if b then ended id v else v) (record square { shared = if b then waiting_for id u else 0 }) (if b then put_at_end id v put_out else put_out)
-      by false true client on free one = subst (λ a. OwnSegment setup run s outputs (if a then v else let_go id v) (owing [] (if a then 0 else waiting_for id u)) put_out) on one
-      by false false client on free one = subst (λ a. OwnSegment setup run s outputs (if a then v else let_go id v) (owing [] (if a then 0 else waiting_for id u)) put_out) on one
+      by false true client on free one = subst (λ a. OwnSegment setup run s outputs (if a then v else forgotten id v) (owing [] (if a then 0 else waiting_for id u)) put_out) on one
+      by false false client on free one = subst (λ a. OwnSegment setup run s outputs (if a then v else forgotten id v) (owing [] (if a then 0 else waiting_for id u)) put_out) on one
       by true true client off free one =
-          subst (λ a. OwnSegment setup run s outputs (let_go id (if a then reset_gone id no_error v else v)) (record square { shared = waiting_for id u }) (if a then put put_out (ToClient (spell (rst_stream id no_error))) else put_out)) (sym off)
-          (subst (λ a. OwnSegment setup run s outputs (if a then v else let_go id v) (owing [] (if a then 0 else waiting_for id u)) put_out) off one)
+          subst (λ a. OwnSegment setup run s outputs (forgotten id (if a then reset_gone id no_error v else v)) (record square { shared = waiting_for id u }) (if a then put put_out (ToClient (spell (rst_stream id no_error))) else put_out)) (sym off)
+          (subst (λ a. OwnSegment setup run s outputs (if a then v else forgotten id v) (owing [] (if a then 0 else waiting_for id u)) put_out) off one)
       by true false client on free one =
           own_behind_segment setup run s outputs put_out (put_at_end id v put_out) v (ended id v) (owing (rst_stream id no_error ∷ []) 0) (record square { shared = waiting_for id u })
-          (subst (λ a. OwnSegment setup run s outputs (if a then v else let_go id v) (owing (rst_stream id no_error ∷ []) (if a then 0 else waiting_for id u)) put_out) on one)
+          (subst (λ a. OwnSegment setup run s outputs (if a then v else forgotten id v) (owing (rst_stream id no_error ∷ []) (if a then 0 else waiting_for id u)) put_out) on one)
           (reset_it on gone.waits (free refl on))
 
   -- The stream ended, and its reset can't go: the connection ends.
@@ -124,10 +125,10 @@ module _ (setup : Setup) (run : List Move) (s : State) (u : View) (id : ℕ) (sm
   gone_over gone on p calmed = by (find u.inbound.rows id).ended_by_client gone.active gone.segment
     where
       by : (e : Bool) → is_active v.inbound.rows id ≡ not (e && true)
-          → OwnSegment setup run s outputs (if is_active v.inbound.rows id then v else let_go id v) (owing (if true && not e then rst_stream id no_error ∷ [] else []) (if is_active v.inbound.rows id then 0 else waiting_for id u)) put_out
+          → OwnSegment setup run s outputs (if is_active v.inbound.rows id then v else forgotten id v) (owing (if true && not e then rst_stream id no_error ∷ [] else []) (if is_active v.inbound.rows id then 0 else waiting_for id u)) put_out
           → Follows setup run outputs square None p
       by true off one = absurd (let no : true ≡ false = sym on ∙ off in cc)
       by false is one =
           then_follows setup run s v (owing (rst_stream id no_error ∷ []) 0) square outputs put_out p None
-          (subst (λ a. OwnSegment setup run s outputs (if a then v else let_go id v) (owing (rst_stream id no_error ∷ []) (if a then 0 else waiting_for id u)) put_out) on one)
+          (subst (λ a. OwnSegment setup run s outputs (if a then v else forgotten id v) (owing (rst_stream id no_error ∷ []) (if a then 0 else waiting_for id u)) put_out) on one)
           (calm_ends setup v (owing (rst_stream id no_error ∷ []) 0) (inl (rst_stream id no_error, [], refl)) refl put_out p calmed)

@@ -8,7 +8,7 @@ use Rattle.model.specs.Messages.{Field}
 use Rattle.model.specs.Messages.Item.{Block}
 use Rattle.model.specs.Frames.{spell}
 use Rattle.model.specs.Blocks as blocks
-use Rattle.model.specs.Admission.{high_water, most_untaken}
+use Rattle.model.specs.Limits.{high_water, most_untaken}
 use Rattle.model.specs.ResponseHeads.{Head}
 use Rattle.model.specs.Logs.{Output}
 use Rattle.model.specs.Logs.Output.{ToClient}

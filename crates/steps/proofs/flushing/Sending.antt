@@ -6,8 +6,7 @@ use Rattle.std.proofs.lemmas.Bool.{cases_Bool, cases_eq, eq-eqb, and_parts, eqb-
 use Rattle.model.specs.Messages.{Item}
 use Rattle.model.specs.Frames.{Frame, Fits, spell, ends_headers, window_update_kind, ends_stream, content}
 use Rattle.model.specs.ErrorClause.{is_passing}
-use Rattle.model.specs.StreamStates.{most_streams}
-use Rattle.model.specs.Admission.{high_water}
+use Rattle.model.specs.Limits.{most_streams, high_water}
 use Rattle.model.specs.Logs.{Output}
 use Rattle.model.specs.Logs.Output.{ToClient}
 use Rattle.model.specs.Setup.{Setup}
@@ -61,7 +60,8 @@ use Rattle.relay.proofs.Kept.{AreServed, held_behind}
 use Rattle.relay.proofs.Passing.{part_goes_on, fragment_goes_on}
 use Rattle.relay.proofs.Staying.{rows_kept, all_held_served}
 use Rattle.conduct.proofs.Farewells.{passing_calmless}
-use Rattle.steps.specs.flushing.Changes.{part_gone, let_go, unless_active}
+use Rattle.steps.specs.Forgetting.{forgotten}
+use Rattle.steps.specs.flushing.Changes.{part_gone, unless_active}
 use Rattle.steps.proofs.flushing.Rows.{found_other, found_own, over_told, active_other, active_own, not_flip}
 use Rattle.steps.proofs.flushing.Placed.{book_at, state_at, back_on, back_if, newest_of, At, held_same, marked_behind, behind_sent, behind_part}
 use Rattle.steps.proofs.flushing.Paths.{Path, sends_path, part_path}
@@ -306,11 +306,11 @@ module _ (setup : Setup) (run : List Move) (u : View) (begun : Option Partial) (
         marked_now b is held same =
             marked_behind setup u [] begun given rest windows noted table (book_at gone None given) called leads (passing_calmless noted goes.may.passing) no_update (not b) (over_then b is) run at.stands at.so at.marked held same (Goes noted item part table) refl refl
 
-        by : (b : Bool) → is_active gone.inbound.rows id ≡ b → Path setup run u [] begun outputs (if b then gone else let_go id gone) called None (put outputs (ToClient (spell noted.frame))) given rest windows (back_if (not b) id u windows)
+        by : (b : Bool) → is_active gone.inbound.rows id ≡ b → Path setup run u [] begun outputs (if b then gone else forgotten id gone) called None (put outputs (ToClient (spell noted.frame))) given rest windows (back_if (not b) id u windows)
         by true is =
             part_path setup given rest windows run u [] begun at gone called None outputs refl false id refl credited_then noted item part table fits may_go
             (step true is u.upstreams.held (held_same told told_then (same_served is) u.upstreams.held served_here))
             (marked_now true is u.upstreams.held (held_same told told_then (same_served is) u.upstreams.held served_here))
         by false is =
-            part_path setup given rest windows run u [] begun at (let_go id gone) called None outputs refl true id refl credited_over noted item part table fits may_go
+            part_path setup given rest windows run u [] begun at (forgotten id gone) called None outputs refl true id refl credited_over noted item part table fits may_go
             (step false is (without id_of id u.upstreams.held) (gone_held is)) (marked_now false is (without id_of id u.upstreams.held) (gone_held is))

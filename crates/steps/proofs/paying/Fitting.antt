@@ -6,7 +6,7 @@ use Rattle.std.proofs.lemmas.Int.{ints}
 use Rattle.model.specs.Setup.{Setup}
 use Rattle.model.specs.Known.{Known}
 use Rattle.model.specs.Lifetimes as lives
-use Rattle.model.specs.Windows.{first_window, greatest_window}
+use Rattle.model.specs.Limits.{first_window, greatest_window}
 use Rattle.conduct.specs.Summary.{Stream as Kept, Summary, summary_of}
 use Rattle.conduct.specs.Rows as rows
 use Rattle.conduct.specs.Rows.{Row}

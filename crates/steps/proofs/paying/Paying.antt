@@ -8,7 +8,7 @@ use Rattle.model.specs.Tapes.{put}
 use Rattle.model.specs.Openings.{Opened, given}
 use Rattle.model.specs.Decoding.{Partial, joined}
 use Rattle.model.specs.Lifetimes.{may_open}
-use Rattle.model.specs.Admission.{most_untaken}
+use Rattle.model.specs.Limits.{most_untaken}
 use Rattle.model.specs.ErrorClause.{is_calming}
 use Rattle.conduct.specs.Summary.{Summary}
 use Rattle.conduct.specs.Judging.{completed_in}

@@ -1,6 +1,6 @@
 -- What changes where octets are given back, or wait.
 use Rattle.std.proofs.Common.{◌≡◌, ℕ, true, List, refl, ◌∙◌, arith}
-use Rattle.model.specs.StreamStates.{most_streams}
+use Rattle.model.specs.Limits.{most_streams}
 use Rattle.streams_kept.specs.Asked.{is_active}
 use Rattle.marks_kept.specs.Sides.{Side}
 use Rattle.relay.specs.View.{View}

@@ -5,7 +5,7 @@ use Rattle.std.specs.List.{list_any}
 use Rattle.std.proofs.lemmas.Bool.{and_parts, not-true, ne_eqb, eqb-true}
 use Rattle.std.proofs.lemmas.Bool.Decides.{eqb_tells}
 use Rattle.model.specs.Lifetimes.{may_open}
-use Rattle.model.specs.StreamStates.{most_streams}
+use Rattle.model.specs.Limits.{most_streams}
 use Rattle.model.proofs.OpenedLaws.{not_opened}
 use Rattle.conduct.specs.Summary.{Stream as Kept}
 use Rattle.conduct.specs.Judging.{is_over_in}

@@ -1,12 +1,11 @@
 -- What is done where the effect of the last frame is over, put together.
 use Rattle.std.proofs.Common.{◌≡◌, ℕ, ◌+◌, ◌<◌, true, false, not, nat_lt, if◌then◌else◌, List, refl, sym, ◌∙◌, ap, subst, inl, inr, arith}
 use Rattle.std.proofs.lemmas.Bool.{and_parts, not-true, eq-eqb}
-use Rattle.model.specs.Admission.{most_untaken}
+use Rattle.model.specs.Limits.{most_untaken, most_streams}
 use Rattle.model.specs.Frames.{spell}
 use Rattle.model.specs.Logs.{Output}
 use Rattle.model.specs.Logs.Output.{ToClient}
 use Rattle.model.specs.Setup.{Setup}
-use Rattle.model.specs.StreamStates.{most_streams}
 use Rattle.model.specs.Tapes.{put}
 use Rattle.conduct.specs.Rows.{find}
 use Rattle.conduct.specs.Judging.{is_over_in}

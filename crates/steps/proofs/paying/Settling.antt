@@ -10,7 +10,7 @@ use Rattle.model.specs.Setup.Passing.{Whole, Streaming}
 use Rattle.model.specs.Tapes.{put}
 use Rattle.conduct.specs.Judging.{is_crowded_in}
 use Rattle.conduct.specs.Owing.{must_end_in}
-use Rattle.model.specs.Admission.{most_untaken}
+use Rattle.model.specs.Limits.{most_untaken}
 use Rattle.conduct.specs.Rows as rows
 use Rattle.conduct.specs.Quiet.{noted_of}
 use Rattle.conduct.specs.Book.{Book, summary_in}

@@ -11,7 +11,7 @@ use Rattle.model.specs.Decoding.{Partial}
 use Rattle.model.specs.Errors.{Fault, first_of, or_else}
 use Rattle.model.specs.Errors.Fault.{Connection}
 use Rattle.model.specs.ErrorClause.{is_fatal, rst_stream, ping_ack}
-use Rattle.model.specs.StreamStates.{most_streams}
+use Rattle.model.specs.Limits.{most_streams}
 use Rattle.model.specs.WindowsOnTape.{is_any, data_length, has_settings}
 use Rattle.model.specs.Messages.Item.{Content}
 use Rattle.model.specs.FrameErrors.{fault_if}

@@ -7,7 +7,7 @@ use Rattle.model.specs.Setup.{Setup}
 use Rattle.model.specs.Errors.{Fault, or_else}
 use Rattle.model.specs.FrameErrors.{fault_if}
 use Rattle.model.specs.ErrorClause.{is_fatal}
-use Rattle.model.specs.StreamStates.{most_streams}
+use Rattle.model.specs.Limits.{most_streams}
 use Rattle.model.specs.WindowsOnTape.{has_settings}
 use Rattle.conduct.specs.Summary.{Stream as Kept}
 use Rattle.conduct.specs.Judging.{is_over_in}

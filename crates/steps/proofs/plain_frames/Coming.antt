@@ -10,7 +10,7 @@ use Rattle.model.specs.Tapes.{Noted}
 use Rattle.model.specs.Tapes.Note.{NoBlock}
 use Rattle.model.specs.Decoding.{Partial}
 use Rattle.model.specs.Known.{Known}
-use Rattle.model.specs.StreamStates.{most_streams}
+use Rattle.model.specs.Limits.{most_streams}
 use Rattle.model.specs.ErrorClause.{is_fatal}
 use Rattle.model.specs.Causes.{Cause}
 use Rattle.model.specs.WindowsOnTape.{is_any, data_length}

@@ -10,7 +10,7 @@ use Rattle.model.specs.Setup.{Setup}
 use Rattle.model.specs.Tables.{Table}
 use Rattle.model.specs.Tapes.{put}
 use Rattle.model.specs.Lifetimes.{may_open}
-use Rattle.model.specs.StreamStates.{most_streams}
+use Rattle.model.specs.Limits.{most_streams, most_untaken}
 use Rattle.model.specs.Causes.{Cause}
 use Rattle.model.specs.Decoding.{Partial}
 use Rattle.model.specs.Errors.Fault.{Stream}
@@ -56,13 +56,12 @@ use Rattle.marks_kept.specs.Standing.{dropped_of}
 use Rattle.marks_kept.proofs.Looking.{gone_own}
 use Rattle.marks_kept.proofs.Rising.{without_none}
 use Rattle.relay.proofs.Coming.{outside_of, inbound_in, inbound_behind, frame_book, change_between, offers_with, told_of_rows}
-use Rattle.model.specs.Admission.{most_untaken}
 use Rattle.streams_kept.proofs.Changes.{same_ids}
 use Rattle.steps.specs.Comings.{ComesFrom}
 use Rattle.steps.specs.Inputs.Input.{OfFrame}
 use Rattle.steps.specs.Stopping.{IsCalmed}
 use Rattle.steps.proofs.Calming.{calm_ends, calm_comes, calmed_as}
-use Rattle.steps.specs.plain_frames.Kept.{forgotten}
+use Rattle.steps.specs.Forgetting.{forgotten}
 use Rattle.steps.proofs.plain_frames.Streams.{behind_frame, none_completed, ids_now, stays_idle, dies}
 use Rattle.steps.proofs.plain_frames.Faults.{names_none, fault_names_none, fault_not_idle}
 use Rattle.steps.proofs.plain_frames.Standing.{active_with}

@@ -2,7 +2,7 @@
 use Rattle.std.proofs.Common.{◌≡◌, ℕ, ◌≤◌, min, List, [], ◌∷◌, fold, Option, Some, None, refl, sym, ◌∙◌, ap, arith}
 use Rattle.std.specs.Prelude.{unwrap_or}
 use Rattle.std.specs.List.{reduce, last_or}
-use Rattle.model.specs.Tables.{first_maximum}
+use Rattle.model.specs.Limits.{first_maximum}
 use Rattle.model.specs.Maxima.{counted}
 use Rattle.header_blocks.specs.Encoding.{limits_with}
 use Rattle.header_blocks.specs.declared.limits.Limits.{Limits}

@@ -41,13 +41,13 @@ use Rattle.marks_kept.specs.Sides.{unless_over}
 use Rattle.marks_kept.specs.Standing.{dropped_of}
 use Rattle.relay.proofs.Coming.{outside_of, change_between, offers_with}
 use Rattle.relay.specs.Owed.{owed_for}
-use Rattle.model.specs.Admission.{most_untaken}
+use Rattle.model.specs.Limits.{most_untaken}
 use Rattle.streams_kept.proofs.Changes.{same_ids}
 use Rattle.steps.specs.Comings.{ComesFrom}
 use Rattle.steps.specs.Inputs.Input.{OfFrame}
 use Rattle.steps.specs.Stopping.{IsCalmed, reset_marked}
 use Rattle.steps.proofs.Calming.{calm_ends, calm_comes, calmed_as}
-use Rattle.steps.specs.plain_frames.Kept.{forgotten}
+use Rattle.steps.specs.Forgetting.{forgotten}
 use Rattle.steps.proofs.plain_frames.Coming.{Passes, few, held_goes, came}
 use Rattle.steps.proofs.plain_frames.Quiet.{taken_by}
 use Rattle.steps.proofs.plain_frames.Ending.{held_twice}

@@ -3,7 +3,8 @@ use Rattle.std.proofs.Common.{◌≡◌, ℕ, ◌≤◌, ◌%◌, Bool, true, fa
 use Rattle.std.proofs.lemmas.Bool.{and_parts, and_from, eqb-true}
 use Rattle.std.specs.Prelude.{is_some, nat_lt}
 use Rattle.model.specs.Frames.{Frame, headers_kind, data_kind, protocol_error, flow_control_error, push_promise_kind, refused_stream, stream_closed}
-use Rattle.model.specs.StreamStates.{StreamState, Standing, Verdict, opened_verdict, verdict, is_content, most_streams, most_active}
+use Rattle.model.specs.StreamStates.{StreamState, Standing, Verdict, opened_verdict, verdict, is_content}
+use Rattle.model.specs.Limits.{most_streams, most_active}
 use Rattle.model.specs.StreamStates.StreamState.{ResetByUs, ResetByPeer}
 use Rattle.model.specs.StreamStates.Standing.{WholeConnection, Opened, Idle, ServerIdle, Skipped, Beyond}
 use Rattle.model.specs.Lifetimes.{state_by_ends}

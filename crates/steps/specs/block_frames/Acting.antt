@@ -1,6 +1,6 @@
 -- What is done by the judgement's answer to a frame with a fragment of a header block, from what is kept behind the judgement.
 use Rattle.std.specs.Prelude.{◌≡◌, ◌+◌, ℕ, Bool, true, false, nat_lt, List, [], length, Option, Some, None}
-use Rattle.model.specs.Admission.{most_untaken}
+use Rattle.model.specs.Limits.{most_untaken}
 use Rattle.model.specs.Frames.{spell}
 use Rattle.model.specs.Http2.{HasLength}
 use Rattle.model.specs.Messages.{Field}
@@ -25,8 +25,9 @@ use Rattle.upstreams.specs.Kept as upstreams
 use Rattle.upstreams.specs.Kept.{Begins}
 use Rattle.upstreams.specs.Requests.{due_by, MayTakeOf, Takes}
 use Rattle.relay.specs.View.{View, waiting_for}
+use Rattle.steps.specs.Forgetting.{forgotten}
 use Rattle.steps.specs.Stopping.{reset_marked}
-use Rattle.steps.specs.block_frames.Following.{followed, forgotten, dropped_by, with_farewell, put_farewell, IsCalmedBehind}
+use Rattle.steps.specs.block_frames.Following.{followed, dropped_by, with_farewell, put_farewell, IsCalmedBehind}
 use Rattle.steps.specs.declared.block_frames.outlet.Outlet.{Outlet}
 use Rattle.steps.specs.declared.block_frames.taking.BlockTaken.{BlockTaken}
 use Rattle.steps.specs.declared.block_frames.taking.BlockTaken.TheVariants as taken

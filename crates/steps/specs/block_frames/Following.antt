@@ -1,8 +1,7 @@
 -- What is kept of a stream follows what the judgement left of it, and a farewell that is owed.
 use Rattle.std.specs.Prelude.{◌≡◌, ◌⊎◌, ◌+◌, ℕ, Bool, true, false, if◌then◌else◌, List, [], ◌∷◌, ◌++◌, length, Option, Some, None, nat_lt, ◌==◌, ◌&&◌}
 use Rattle.model.specs.Frames.{Frame, spell, goaway, no_error}
-use Rattle.model.specs.Admission.{most_untaken}
-use Rattle.model.specs.StreamStates.{most_streams}
+use Rattle.model.specs.Limits.{most_untaken, most_streams}
 use Rattle.model.specs.Logs.{Output}
 use Rattle.model.specs.Logs.Output.{ToClient}
 use Rattle.model.specs.Tapes.{put}
@@ -55,14 +54,6 @@ dropped_by id kept = dropped_if (is_active kept.inbound.rows id) (waiting_for id
 -- A stream for which something is to be on offer from now on is above all others.
 abbrev pub IsNewest : Bool → ℕ → offering.State → Type 0
 IsNewest active id offers = active ≡ true → is_kept id offers.kept ≡ false → is_above_all id offers.kept ≡ true
-
--- nothing is kept of a stream any more
-abbrev pub forgotten : ℕ → View → View
-forgotten id kept = record kept {
-  offers = record kept.offers { kept = offering.without id kept.offers.kept };
-  upstreams = record kept.upstreams { held = without id_of id kept.upstreams.held };
-  marks = marks.without id kept.marks;
-}
 
 -- ---- the farewell of the last stream that a connection may have (RFC 9113, section 6.8)
 

@@ -1,6 +1,6 @@
 -- What comes of a frame of the client with a fragment of a header block.
 use Rattle.std.specs.Prelude.{◌≡◌, ◌⊎◌, ℕ, true, nat_lt, List, Option, Some, is_some}
-use Rattle.model.specs.Admission.{most_untaken}
+use Rattle.model.specs.Limits.{most_untaken}
 use Rattle.serving.specs.State.{is_streaming}
 use Rattle.serving.specs.State.Due.{Nothing}
 use Rattle.model.specs.Frames.{Frame}

@@ -1,6 +1,6 @@
 -- What is kept where the gateway replies to a stream itself, since its upstream's answer failed, and what is put out then.
 use Rattle.std.specs.Prelude.{◌≡◌, ℕ, ◌+◌, Bool, true, false, nat_lt, List, length, map, Option, Some, None}
-use Rattle.model.specs.Admission.{most_untaken}
+use Rattle.model.specs.Limits.{most_untaken}
 use Rattle.model.specs.Frames.{spell, internal_error}
 use Rattle.model.specs.Causes.Cause.{BadAnswer}
 use Rattle.model.specs.ErrorClause.{rst_stream}

@@ -14,9 +14,6 @@ use Rattle.conduct.specs.Rows.{find}
 use Rattle.conduct.specs.Rows.Slot.{Over}
 use Rattle.offering.specs.Outbox.{Part}
 use Rattle.offering.specs.Outbox.Part.{Early, Final, Octets, Trailing}
-use Rattle.offering.specs.State as offering
-use Rattle.serving.specs.Lines.{without}
-use Rattle.serving.specs.State.{id_of}
 use Rattle.header_blocks.specs.Encoding.{Encoding}
 use Rattle.header_blocks.specs.Encodes.{IsWrittenBy}
 use Rattle.streams_kept.specs.Asked.{is_active, changed}
@@ -28,8 +25,8 @@ use Rattle.offers.specs.Asked.{part_for}
 use Rattle.offers.specs.Changes.{behind_turn}
 use Rattle.outputs.specs.Sent.{data_frame, put_frames}
 use Rattle.outputs.specs.Blocks.{block_frames}
-use Rattle.marks_kept.specs.Sides as marks
 use Rattle.relay.specs.View.{View}
+use Rattle.steps.specs.Forgetting.{forgotten}
 
 -- a part of a stream went out in so many octets, and this is kept of the stream, of the connection's window and of the encoder
 abbrev pub part_gone : ℕ → Part → Kept → ℤ → Encoding → ℕ → View → View
@@ -40,17 +37,9 @@ part_gone id part kept window encoding count u = record u {
   untaken = u.untaken + count;
 }
 
--- nothing is on offer for a stream any more, and nothing is held of its request nor kept of its DATA
-abbrev pub let_go : ℕ → View → View
-let_go id u = record u {
-  offers = record u.offers { kept = offering.without id u.offers.kept };
-  upstreams = record u.upstreams { held = without id_of id u.upstreams.held };
-  marks = marks.without id u.marks;
-}
-
--- the same, where the stream isn't active any more
+-- nothing is kept of a stream that isn't active any more
 abbrev pub unless_active : ℕ → View → View
-unless_active id u = if is_active u.inbound.rows id then u else let_go id u
+unless_active id u = if is_active u.inbound.rows id then u else forgotten id u
 
 -- a stream was reset
 abbrev pub reset_gone : ℕ → ℕ → View → View
@@ -61,7 +50,7 @@ reset_gone id code u = record u {
 
 -- the gateway ended a stream: it is reset where the client hasn't ended it, and then it is over
 abbrev pub ended : ℕ → View → View
-ended id u = let_go id (if is_active u.inbound.rows id then reset_gone id no_error u else u)
+ended id u = forgotten id (if is_active u.inbound.rows id then reset_gone id no_error u else u)
 
 -- and this was put out
 abbrev pub put_at_end : ℕ → View → List Output → List Output
@@ -110,6 +99,12 @@ pub record AreTrailersSent (old : View) (outputs : List Output) (id : ℕ) (new 
   pub written : IsWrittenBy old.encoding trailers table block
   pub kept : new ≡ part_gone id (Trailing trailers) (head_sent false true (find old.inbound.rows id)) old.inbound.window (record old.encoding { table = table; limits = None }) (octets_of_frames (block_frames id true block)) old
   pub puts : put_out ≡ put_frames outputs (block_frames id true block)
+
+-- What is kept once octets that go next on a stream, or its end alone, went out: so many, of the part that goes where so many may.
+pub record AreOctetsNoted (old : View) (id most count : ℕ) (ends : Bool) (new : View) : Type 0 where
+  pub part : Part
+  pub next : part_for most id old.offers.kept ≡ Some part
+  pub kept : new ≡ part_gone id part (data_sent count ends (find old.inbound.rows id)) (old.inbound.window -ℤ pos count) old.encoding (9 + count) old
 
 -- Octets that go next on a stream, or its end alone, went out in one frame, within both windows (RFC 9113, sections 6.1 and 6.9.1).
 pub record AreOctetsSent (old : View) (outputs : List Output) (id : ℕ) (ends : Bool) (new : View) (put_out : List Output) : Type 0 where

@@ -1,6 +1,6 @@
 -- What is done by the judgement's answer, from what is kept behind the judgement.
 use Rattle.std.specs.Prelude.{◌≡◌, ◌≤◌, ◌+◌, ℕ, Bool, true, false, not, ◌&&◌, nat_lt, List, [], ◌∷◌, length}
-use Rattle.model.specs.Admission.{most_untaken}
+use Rattle.model.specs.Limits.{most_untaken}
 use Rattle.model.specs.Frames.{Frame, spell, settings_ack, enhance_your_calm}
 use Rattle.model.specs.Logs.{Output}
 use Rattle.model.specs.Logs.Output.{ToClient}
@@ -15,6 +15,7 @@ use Rattle.offering.specs.State.{change, answered}
 use Rattle.serving.specs.Lines.{without}
 use Rattle.serving.specs.State.{Due, id_of, held_of}
 use Rattle.serving.specs.State.Due.{Nothing}
+use Rattle.steps.specs.Forgetting.{forgotten}
 use Rattle.steps.specs.paying.Controls.{MayPay}
 use Rattle.settings.specs.declared.Change.{Change}
 use Rattle.streams_kept.specs.Asked.{is_active, changed}
@@ -26,7 +27,7 @@ use Rattle.upstreams.specs.Requests.{due_by, MayTakeOf, Takes}
 use Rattle.relay.specs.View.{View, Pending, waiting_for}
 use Rattle.relay.specs.Bringing.{PerformsOwn}
 use Rattle.steps.specs.Stopping.{IsCalmed, reset_marked}
-use Rattle.steps.specs.plain_frames.Kept.{forgotten, limited}
+use Rattle.steps.specs.plain_frames.Kept.{limited}
 use Rattle.steps.specs.declared.plain_frames.taking.Taken.{Taken}
 use Rattle.steps.specs.declared.plain_frames.taking.Taken.TheVariants as taken
 

@@ -1,41 +1,45 @@
 //! What is done behind the judgement of a frame.
 
 ghost use Rattle.std.specs.Prelude.{◌≡◌, ◌+◌, ◌<◌, true, false, nat_lt, length, if◌then◌else◌, IfErr, IfOk, OnOk};
-ghost use Rattle.model.specs.Admission.{most_untaken};
+ghost use Rattle.model.specs.Limits.{most_untaken};
 ghost use Rattle.model.specs.Frames.{spell};
 ghost use Rattle.model.specs.ErrorClause.{rst_stream};
 ghost use Rattle.model.specs.Logs.Output.{ToClient};
 ghost use Rattle.model.specs.Tapes.{put};
 ghost use Rattle.conduct.specs.Rows.{find};
 ghost use Rattle.streams_kept.specs.Asked.{is_active};
+ghost use Rattle.streams_kept.specs.Sending.{is_served};
 ghost use Rattle.receiving.specs.Marks.{total};
 ghost use Rattle.marks_kept.specs.Sides.{queue_of};
 ghost use Rattle.relay.specs.View.{waiting_for};
 ghost use Rattle.steps.specs.Stopping.{IfOver, IsCalmed};
-ghost use Rattle.steps.specs.block_frames.Following.{followed, forgotten, dropped_by, farewell_behind, held_if, marks_if, offers_if, put_farewell, with_farewell, IsCalmedBehind, IsNewest, WasFree};
+ghost use Rattle.steps.specs.Forgetting.{forgotten};
+ghost use Rattle.steps.specs.block_frames.Following.{followed, dropped_by, farewell_behind, held_if, marks_if, offers_if, put_farewell, with_farewell, IsCalmedBehind, IsNewest, WasFree};
 
+use crate::forgetting::forget_stream;
 use crate::paying::{Control, pay};
 use crate::stop::Stop;
 use judgement::Connection;
 use marks_kept::Marks;
 use offers::Offers;
 use outputs::Outputs;
+use protocol::error_codes::NO_ERROR;
+use protocol::limits::MOST_STREAMS;
 use relay::Rooms;
 use std::alloc::AllocError;
 use streams_kept::Streams;
 use upstreams::Upstreams;
 
-/// The end of a connection without an error (RFC 9113, section 7).
-const NO_ERROR: u32 = 0;
-
-/// How many streams are opened on a connection (this project's profile).
-const MOST_STREAMS: u32 = 10000;
-
-/// Whether a stream is active (RFC 9113, section 5.1).
-fn is_active(streams: &Streams, id: u32) -> bool
-    ensures { result ≡ is_active streams.now id }
+/// Whether a stream is active (RFC 9113, section 5.1), and whether it is served: it is active, and the
+/// gateway doesn't reply to it itself.
+fn stays(streams: &Streams, id: u32) -> (bool, bool)
+    ensures active { result.0 ≡ is_active streams.now id }
+    ensures served { result.1 ≡ is_served streams.now id }
 {
-    streams.find(id).is_some()
+    match streams.find(id) {
+        Some(live) => (true, !live.is_replied()),
+        None => (false, false),
+    }
 }
 
 /// Whether the client has ended an active stream (RFC 9113, section 5.1).
@@ -45,17 +49,6 @@ pub(crate) fn has_ended(inbound: &Connection, id: u32) -> bool
 {
     match inbound.streams().find(id) {
         Some(live) => live.ended_by_client(),
-        None => unreachable!(),
-    }
-}
-
-/// Whether the final head of a response is out on an active stream.
-pub(crate) fn head_out(inbound: &Connection, id: u32) -> bool
-    requires { is_active inbound.now.rows id ≡ true }
-    ensures { result ≡ (find inbound.now.rows id).head_out }
-{
-    match inbound.streams().find(id) {
-        Some(live) => live.head_out(),
         None => unreachable!(),
     }
 }
@@ -109,9 +102,8 @@ pub(crate) fn follow(rooms: &mut Rooms, id: u32) -> Result<u64, AllocError>
     ensures kept { OnOk result (rooms.new ≡ followed id rooms.old) }
     ensures dropped { IfOk result (λ dropped. dropped ≡ dropped_by id rooms.old) }
 {
-    let active = is_active(rooms.inbound.streams(), id);
+    let (active, served) = stays(rooms.inbound.streams(), id);
     follow_offers(&mut rooms.offers, id, active)?;
-    let served = rooms.inbound.is_served(id);
     follow_requests(&mut rooms.upstreams, id, served);
     Ok(follow_marks(&mut rooms.marks, id, active))
 }
@@ -154,7 +146,5 @@ pub(crate) fn reset(
 {
     pay_farewell(rooms, farewell, out)?;
     pay(rooms, Control::Reset { stream: id, code }, out)?;
-    rooms.offers.close(id);
-    rooms.upstreams.forget(id);
-    Ok(rooms.marks.close(id))
+    Ok(forget_stream(rooms, id))
 }

@@ -20,7 +20,8 @@ ghost use Rattle.steps.specs.block_frames.Following.{IsCalmedBehind, IsNewest};
 ghost use Rattle.steps.specs.block_frames.Acting.{HasBegun, HasEnded, IsActed, IsCutShort, IsFollowed, IsReplied, IsReset, IsStopped, MayAct, MayBegin};
 ghost use Rattle.steps.specs.block_frames.Taken.{IsBlockTaken, IsOutlet};
 
-use crate::block_frames::doing::{farewell_behind, follow, has_ended, head_out, reset};
+use crate::asking::head_out;
+use crate::block_frames::doing::{farewell_behind, follow, has_ended, reset};
 use crate::block_frames::outlet::Outlet;
 use crate::crowding::is_crowded;
 use crate::stop::Stop;

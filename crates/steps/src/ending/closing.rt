@@ -1,7 +1,7 @@
 //! Connections are closed.
 
 ghost use Rattle.std.specs.Prelude.{◌≡◌, ℕ, List, ◌∷◌, reverse, true, nat_lt, if◌then◌else◌, OnOk};
-ghost use Rattle.model.specs.Admission.{most_untaken};
+ghost use Rattle.model.specs.Limits.{most_untaken};
 ghost use Rattle.model.specs.Frames.{enhance_your_calm};
 ghost use Rattle.model.specs.Setup.{Setup};
 ghost use Rattle.model.specs.Logs.Act.{CloseClient};
@@ -20,12 +20,10 @@ ghost use Rattle.steps.specs.ending.Reasons.{IsBy};
 use crate::crowding::is_crowded;
 use crate::ending::reason::Ending;
 use outputs::Outputs;
+use protocol::error_codes::ENHANCE_YOUR_CALM;
 use relay::Rooms;
 use std::alloc::AllocError;
 use upstreams::Upstreams;
-
-/// The client asks for too much (RFC 9113, section 7).
-const ENHANCE_YOUR_CALM: u32 = 11;
 
 /// Ends a connection with what came in: it says farewell where that is an error, with the highest stream and the code (RFC 9113, section 6.8), which
 /// asks the client to be calm where more than 1,048,576 octets for it are untaken, whatever the error is, and closes each open connection to an upstream,

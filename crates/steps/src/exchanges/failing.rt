@@ -1,7 +1,7 @@
 //! An upstream's answer failed: the gateway replies to its stream itself.
 
 ghost use Rattle.std.specs.Prelude.{◌≡◌, ◌<◌, true, false, nat_lt, IfErr, IfOk, OnOk};
-ghost use Rattle.model.specs.Admission.{most_untaken};
+ghost use Rattle.model.specs.Limits.{most_untaken};
 ghost use Rattle.model.specs.Frames.{spell, internal_error};
 ghost use Rattle.model.specs.ErrorClause.{rst_stream};
 ghost use Rattle.model.specs.Logs.Output.{ToClient};
@@ -15,10 +15,8 @@ use crate::paying::{Control, pay};
 use crate::stop::Stop;
 use causes::Cause;
 use outputs::Outputs;
+use protocol::error_codes::INTERNAL_ERROR;
 use relay::Rooms;
-
-/// An error of the gateway's own (RFC 9113, section 7).
-const INTERNAL_ERROR: u32 = 2;
 
 /// Resets an active stream, which is over with that (RFC 9113, section 5.4.2): so many octets of its DATA waited, and go back. An `Err` says
 /// that memory was refused, or that the connection was ended in place of the frame.

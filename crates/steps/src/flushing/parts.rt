@@ -1,34 +1,34 @@
 //! The next part of a stream's response goes out, and what is left of it is kept.
 
 ghost use Rattle.std.specs.Prelude.{◌≡◌, ◌+◌, ◌*◌, ◌-◌, ◌/◌, ◌<◌, ◌≤◌, ◌^◌, true, false, nat_lt, ◌≤ℤ◌, pos, IfErr, IfOk, OnOk};
-ghost use Rattle.model.specs.Admission.{high_water, most_untaken};
+ghost use Rattle.model.specs.Limits.{high_water, most_untaken};
 ghost use Rattle.conduct.specs.Judging.{window_in};
 ghost use Rattle.conduct.specs.Rows.{find};
 ghost use Rattle.offering.specs.State.{are_open, can_turn};
 ghost use Rattle.streams_kept.specs.Asked.{is_active};
-ghost use Rattle.offers.specs.Asked.{are_trailers, is_head, part_for, windows_over};
+ghost use Rattle.judgement.specs.Sending.{AreWithin};
+ghost use Rattle.offers.specs.Asked.{are_octets, are_trailers, part_for, windows_over};
 ghost use Rattle.relay.specs.View.{waiting_for};
 ghost use Rattle.steps.specs.Stopping.{IfOver, IsCalmed};
-ghost use Rattle.steps.specs.flushing.Changes.{ended, put_at_end, AreTrailersSent, IsHeadPart, IsHeadSent, AreOctetsSent, IsPartSent};
-ghost use Rattle.steps.specs.flushing.Next.{IsNext};
+ghost use Rattle.steps.specs.flushing.Changes.{ended, put_at_end, AreTrailersSent, IsHeadPart, IsHeadSent, AreOctetsNoted, IsPartSent};
 
+use crate::forgetting::forget_stream;
 use crate::paying::{Control, pay};
 use crate::stop::Stop;
 use judgement::Connection;
-use offers::Offers;
 use outbox::Part;
 use outputs::{Outputs, section_of};
+use protocol::error_codes::NO_ERROR;
+use protocol::lengths::FRAME_HEADER;
+use protocol::limits::LONGEST_PAYLOAD;
 use relay::Rooms;
 use std::alloc::{AllocError, Global};
 
-/// The most octets of a frame's payload (RFC 9113, section 4.2).
-const LONGEST: usize = 16384;
-
 /// The octets of a frame's header (RFC 9113, section 4.1).
-const HEADER: u64 = 9;
+const HEADER: u64 = FRAME_HEADER as u64;
 
-/// The error code NO_ERROR (RFC 9113, section 7).
-const NO_ERROR: u32 = 0;
+/// The most octets of a frame's payload (RFC 9113, section 4.2).
+const LONGEST: i64 = LONGEST_PAYLOAD as i64;
 
 /// A head that goes next on a stream.
 #[derive(Clone, Copy)]
@@ -39,41 +39,12 @@ struct NextHead {
     ends: bool,
 }
 
-/// What goes next on a stream.
-#[derive(Clone, Copy)]
-enum Next {
-    /// A head.
-    Head(NextHead),
-    /// Trailers, which end the stream.
-    Trailers,
-    /// Neither: octets of a body, or the end alone, if anything.
-    Other,
-}
-
-/// What goes next on a stream.
-fn next_on(offers: &Offers, id: u32) -> Next
-    ensures { IsNext (part_for 1 id offers.now.kept) result }
-{
-    match offers.part(id, 1) {
-        Some(Part::Early(_)) => Next::Head(NextHead {
-            is_final: false,
-            ends: false,
-        }),
-        Some(Part::Final(_, ends)) => Next::Head(NextHead {
-            is_final: true,
-            ends,
-        }),
-        Some(Part::Trailing(_)) => Next::Trailers,
-        _ => Next::Other,
-    }
-}
-
 /// How many octets the frames of a header block are (RFC 9113, sections 4.1, 6.2 and 6.10), by its own.
 fn octets_of_block(block: usize) -> u64
     requires { block < 2 ^ 63 }
     ensures { result ≡ block + 9 * ((block - 1) / 16384 + 1) }
 {
-    let further = block.saturating_sub(1) / LONGEST;
+    let further = block.saturating_sub(1) / LONGEST_PAYLOAD;
     block as u64 + HEADER * (further as u64 + 1)
 }
 
@@ -143,35 +114,27 @@ fn most_octets(inbound: &Connection, id: u32) -> usize
     let most = if own < shared { own } else { shared };
     if most <= 0 {
         1
-    } else if most < 16384 {
+    } else if most < LONGEST {
         most as usize
     } else {
-        LONGEST
+        LONGEST_PAYLOAD
     }
 }
 
-/// Sends octets that go next on an active stream, or its end without octets, in one frame (RFC 9113, section 6.1); whether that ends the stream
-/// is the answer. An `Err` says that memory was refused.
-fn send_octets(rooms: &mut Rooms, id: u32, out: &mut Outputs) -> Result<bool, AllocError>
-    requires no_head { is_head (part_for 1 id rooms.old.offers.kept) ≡ false }
-    requires no_trailers { are_trailers (part_for 1 id rooms.old.offers.kept) ≡ false }
-    requires ready { can_turn (windows_over rooms.old.inbound.rows rooms.old.inbound.first_size rooms.old.inbound.window) rooms.old.offers id ≡ true }
+/// Notes that octets that go next on an active stream were sent in one frame, or its end without
+/// octets: as many as the part has where `most` may go (RFC 9113, section 6.1).
+fn note_octets(rooms: &mut Rooms, id: u32, most: usize, count: usize, ends: bool)
+    requires octets { are_octets (part_for most id rooms.old.offers.kept) ≡ true }
     requires live { is_active rooms.old.inbound.rows id ≡ true }
-    requires small { id < 2147483648 }
+    requires within { AreWithin rooms.old.inbound id count }
+    requires short { count ≤ 16384 }
     requires few { rooms.old.untaken < high_water }
-    ensures sent { IfOk result (λ ends. AreOctetsSent rooms.old out.old id ends rooms.new out.new) }
-    ensures room { OnOk result (rooms.new.untaken + 13 < 2 ^ 64) }
+    ensures noted { AreOctetsNoted rooms.old id most count ends rooms.new }
+    ensures room { rooms.new.untaken + 13 < 2 ^ 64 }
 {
-    let most = most_octets(&rooms.inbound, id);
-    let Some(Part::Octets(front, back, ends)) = rooms.offers.part(id, most) else {
-        unreachable!();
-    };
-    let count = front.len() + back.len();
-    out.send_data(id, front, back, ends)?;
     rooms.offers.take_octets(id, most);
     rooms.untaken += HEADER + count as u64;
     rooms.inbound.sent_data(id, count as u32, ends);
-    Ok(ends)
 }
 
 /// Sends the next part of an active stream of which something can go: a head, trailers or octets; whether that ends the stream is the answer. An `Err`
@@ -189,16 +152,35 @@ pub fn send_part(
     ensures sent { IfOk result (λ ends. IsPartSent rooms.old out.old id ends rooms.new out.new) }
     ensures room { OnOk result (rooms.new.untaken + 13 < 2 ^ 64) }
 {
-    match next_on(&rooms.offers, id) {
-        Next::Head(next) => {
+    let most = most_octets(&rooms.inbound, id);
+    match rooms.offers.part(id, most) {
+        Some(Part::Early(_)) => {
+            let next = NextHead {
+                is_final: false,
+                ends: false,
+            };
             send_head(alloc, rooms, id, next, out)?;
-            Ok(next.ends)
+            Ok(false)
         }
-        Next::Trailers => {
+        Some(Part::Final(_, ends)) => {
+            let next = NextHead {
+                is_final: true,
+                ends,
+            };
+            send_head(alloc, rooms, id, next, out)?;
+            Ok(ends)
+        }
+        Some(Part::Trailing(_)) => {
             send_trailers(alloc, rooms, id, out)?;
             Ok(true)
         }
-        Next::Other => send_octets(rooms, id, out),
+        Some(Part::Octets(front, back, ends)) => {
+            let count = front.len() + back.len();
+            out.send_data(id, front, back, ends)?;
+            note_octets(rooms, id, most, count, ends);
+            Ok(ends)
+        }
+        None => unreachable!(),
     }
 }
 
@@ -221,7 +203,5 @@ pub fn end_stream(rooms: &mut Rooms, id: u32, out: &mut Outputs) -> Result<u64, 
         pay(rooms, control, out)?;
         rooms.inbound.sent_reset(id);
     }
-    rooms.offers.close(id);
-    rooms.upstreams.forget(id);
-    Ok(rooms.marks.close(id))
+    Ok(forget_stream(rooms, id))
 }

@@ -1,7 +1,7 @@
 //! Streams have their turns, as long as something can go.
 
 ghost use Rattle.std.specs.Prelude.{◌≡◌, ℕ, ◌<◌, true, Some, IfErr, OnOk};
-ghost use Rattle.model.specs.Admission.{high_water};
+ghost use Rattle.model.specs.Limits.{high_water};
 ghost use Rattle.model.specs.Setup.{Setup};
 ghost use Rattle.model.specs.Turns.{IsNextTurn};
 ghost use Rattle.offering.specs.State.{ready};
@@ -14,11 +14,9 @@ use crate::flushing::parts::{end_stream, send_part};
 use crate::paying::{close_unserved, return_dropped};
 use crate::stop::Stop;
 use outputs::Outputs;
+use protocol::limits::HIGH_WATER;
 use relay::Rooms;
 use std::alloc::Global;
-
-/// As long as fewer octets for the client are untaken, parts of responses begin (this project's profile).
-pub const HIGH_WATER: u64 = 65536;
 
 /// Sends the next part of the stream whose turn it is; where that ends the stream, what waited of its DATA goes back, and no connection of it stays
 /// open. An `Err` says that memory was refused, or that the connection was ended in place of a frame.

@@ -1,7 +1,7 @@
 //! A frame beside responses is sent: all of them here, so that it is asked once whether too many octets are untaken for it.
 
 ghost use Rattle.std.specs.Prelude.{◌≡◌, ◌+◌, ◌∷◌, List, length, false, nat_lt, IfErr, OnOk};
-ghost use Rattle.model.specs.Admission.{most_untaken};
+ghost use Rattle.model.specs.Limits.{most_untaken};
 ghost use Rattle.model.specs.Frames.{Frame, spell, settings_frame};
 ghost use Rattle.model.specs.Setup.{Setup};
 ghost use Rattle.model.specs.Logs.Output.{ToClient};

@@ -1,12 +1,11 @@
 //! Octets of DATA that came are given back (RFC 9113, section 6.9), at once or once their stream's upstream took what was put out for it.
 
 ghost use Rattle.std.specs.Prelude.{◌≡◌, ◌+◌, ◌<◌, ◌≤◌, ℕ, true, false, nat_lt, IfErr, IfOk, OnOk, pos, ◌+ℤ◌, ◌≤ℤ◌};
-ghost use Rattle.model.specs.Admission.{most_untaken};
+ghost use Rattle.model.specs.Limits.{most_untaken, greatest_window};
 ghost use Rattle.model.specs.Frames.{spell};
 ghost use Rattle.model.specs.Setup.{Setup};
 ghost use Rattle.model.specs.Logs.Output.{ToClient};
 ghost use Rattle.model.specs.Tapes.{put};
-ghost use Rattle.model.specs.Windows.{greatest_window};
 ghost use Rattle.conduct.specs.Rows.{find};
 ghost use Rattle.streams_kept.specs.Asked.{has, is_active};
 ghost use Rattle.streams_kept.specs.Sending.{AreReturnable};
@@ -22,11 +21,12 @@ use crate::paying::control::{Control, pay};
 use crate::stop::Stop;
 use marks_kept::Taken;
 use outputs::Outputs;
+use protocol::limits::GREATEST_WINDOW;
 use relay::Rooms;
 use std::alloc::AllocError;
 
 /// The most octets that one gives back (RFC 9113, section 6.9).
-const GREATEST: u64 = 2147483647;
+const GREATEST: u64 = GREATEST_WINDOW as u64;
 
 /// Whether octets go back on a stream: it is active, and its client hasn't ended it (RFC 9113, section 5.1).
 pub(crate) fn goes_back_on(rooms: &Rooms, stream: u32) -> bool

@@ -1,7 +1,7 @@
 //! What is done behind the judgement of a frame.
 
 ghost use Rattle.std.specs.Prelude.{◌≡◌, ◌+◌, ◌<◌, List, length, false, nat_lt, IfErr, IfOk, OnOk};
-ghost use Rattle.model.specs.Admission.{most_untaken};
+ghost use Rattle.model.specs.Limits.{most_untaken};
 ghost use Rattle.model.specs.Frames.{spell};
 ghost use Rattle.model.specs.ErrorClause.{rst_stream};
 ghost use Rattle.model.specs.Logs.Output.{ToClient};
@@ -9,24 +9,16 @@ ghost use Rattle.model.specs.SettingValues.{Setting, smallest_value, last_value,
 ghost use Rattle.model.specs.Tapes.{put};
 ghost use Rattle.relay.specs.View.{waiting_for};
 ghost use Rattle.steps.specs.Stopping.{IfOver, IsCalmed};
-ghost use Rattle.steps.specs.plain_frames.Kept.{forgotten, limited};
+ghost use Rattle.steps.specs.Forgetting.{forgotten};
+ghost use Rattle.steps.specs.plain_frames.Kept.{limited};
 
+use crate::forgetting::forget_stream;
 use crate::paying::{Control, pay};
 use crate::stop::Stop;
 use header_blocks::Encoder;
 use outputs::Outputs;
 use relay::Rooms;
 use settings::Change;
-
-/// Nothing is kept any more of a stream that is over: so many octets that waited of its DATA go back (RFC 9113, section 6.9).
-pub(crate) fn forget(rooms: &mut Rooms, id: u32) -> u64
-    ensures kept { rooms.new ≡ forgotten id rooms.old }
-    ensures dropped { result ≡ waiting_for id rooms.old }
-{
-    rooms.offers.close(id);
-    rooms.upstreams.forget(id);
-    rooms.marks.close(id)
-}
 
 /// Sends the reset of a stream (RFC 9113, section 6.4), of which nothing is kept any more; the octets that waited of its DATA are the answer. An
 /// `Err` says that memory was refused, or that the connection was ended in its place.
@@ -39,7 +31,7 @@ pub(crate) fn reset(rooms: &mut Rooms, id: u32, code: u32, out: &mut Outputs) ->
     ensures over { IfErr result (λ stop. IfOver stop (IsCalmed rooms.old out.old out.new)) }
 {
     pay(rooms, Control::Reset { stream: id, code }, out)?;
-    Ok(forget(rooms, id))
+    Ok(forget_stream(rooms, id))
 }
 
 /// Notes the limits of the header table that settings name: the smallest and the last stand for all (RFC 7541, section 4.2).

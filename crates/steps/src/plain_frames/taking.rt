@@ -18,20 +18,20 @@ ghost use Rattle.steps.specs.Stopping.{IfOver, IsCalmed, reset_marked};
 ghost use Rattle.steps.specs.plain_frames.Acting.{goes_on, Goes, IsActed, IsContent, IsPaid, IsRepliedBy, IsReset, IsSet, IsStopped, MayAct};
 ghost use Rattle.steps.specs.plain_frames.Taken.{IsPlainTaken};
 
+use crate::asking::head_out;
+use crate::forgetting::forget_stream;
 use crate::paying::{Control, pay};
-use crate::plain_frames::doing::{forget, note_limits, reset};
+use crate::plain_frames::doing::{note_limits, reset};
 use crate::stop::Stop;
 use causes::Cause;
 use frames::View;
 use judgement::{Connection, Fault, Judged};
 use outputs::Outputs;
+use protocol::error_codes::ENHANCE_YOUR_CALM;
 use relay::Rooms;
 use settings::Change;
 use std::alloc::AllocError;
 use upstreams::Due;
-
-/// The client asks for too much (RFC 9113, section 7).
-const ENHANCE_YOUR_CALM: u32 = 11;
 
 /// What is to be done behind a frame of the client.
 #[derive(Drop)]
@@ -67,17 +67,6 @@ pub(crate) fn goes_on(inbound: &Connection, id: u32) -> bool
             !course.over && course.reply.is_none()
         }
         None => false,
-    }
-}
-
-/// Whether the final head of a response is out on an active stream.
-fn head_out(inbound: &Connection, id: u32) -> bool
-    requires { is_active inbound.now.rows id ≡ true }
-    ensures { result ≡ (find inbound.now.rows id).head_out }
-{
-    match inbound.streams().find(id) {
-        Some(live) => live.head_out(),
-        None => unreachable!(),
     }
 }
 
@@ -172,7 +161,7 @@ fn act(
         Judged::Failed(Fault::Stream(code)) => refuse(rooms, id, code, out),
         Judged::Settings(change) => acknowledge(rooms, change, out),
         Judged::Ping(octets) => answer_ping(rooms, octets, out),
-        Judged::Reset => Ok(goes(forget(rooms, id))),
+        Judged::Reset => Ok(goes(forget_stream(rooms, id))),
         Judged::Content(octets, ends) if goes_on => Ok(take_content(rooms, id, octets, ends)?),
         Judged::LargeBody => reply(rooms, id, out),
         Judged::Failed(Fault::Discarded)

@@ -3,7 +3,7 @@ use Rattle.std.proofs.lemmas.Bool.{cases_Bool, ne_eqb, eqb-true}
 use Rattle.std.specs.Prelude.{is_some, option_map}
 use Rattle.model.specs.Errors.{Fault}
 use Rattle.model.specs.Errors.Fault.{Connection, Stream, Discarded}
-use Rattle.model.specs.StreamStates.{most_streams}
+use Rattle.model.specs.Limits.{most_streams}
 use Rattle.model.specs.Lifetimes.{may_open}
 use Rattle.model.specs.ErrorTable.{fault_of, unless_of_stream}
 use Rattle.stream_state.specs.Views.{verdict_in}

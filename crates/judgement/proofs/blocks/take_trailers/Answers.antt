@@ -6,7 +6,8 @@ use Rattle.model.specs.Setup.{Setup}
 use Rattle.model.specs.Tapes.Note.{Fields}
 use Rattle.model.specs.Http2.{declared_length}
 use Rattle.model.specs.Tables.{total_size}
-use Rattle.model.specs.Causes.{largest_fields, are_large}
+use Rattle.model.specs.Causes.{are_large}
+use Rattle.model.specs.Limits.{largest_fields}
 use Rattle.model.specs.Malformed.{are_trailers, has_length, is_malformed_block}
 use Rattle.model.specs.ErrorTable.{fault_of, is_bad_block}
 use Rattle.model.specs.FrameErrors.{fault_if}

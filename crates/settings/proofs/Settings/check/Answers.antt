@@ -2,7 +2,7 @@ use Rattle.settings.proofs.EntryLemmas.{window_stays_in_range}
 use Rattle.model.specs.SettingValues.{first_fault, settings_in}
 use Rattle.std.proofs.Common.{◌≡◌, None, rules}
 use Rattle.std.specs.Prelude.{◌≤◌}
-use Rattle.model.specs.Windows.{greatest_window}
+use Rattle.model.specs.Limits.{greatest_window}
 use Rattle.settings.proofs.Settings.check.Goals as goal
 
 pub difference_of-requires-clause-after : goal.difference_of-requires-clause-after

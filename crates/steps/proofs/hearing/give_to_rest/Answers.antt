@@ -1,7 +1,7 @@
 use Rattle.std.proofs.Common.{◌<◌, Some, refl, sym, subst}
 use Rattle.model.specs.Logs.Event.{ClientTook}
 use Rattle.model.specs.Tapes.Entry.{Happened}
-use Rattle.model.specs.Admission.{high_water}
+use Rattle.model.specs.Limits.{high_water}
 use Rattle.relay.specs.View.{View, square}
 use Rattle.relay.specs.Rest.{NoneDone}
 use Rattle.steps.proofs.Calming.{calm_comes}

@@ -1,5 +1,5 @@
 use Rattle.std.proofs.Common.{◌≡◌, sym, ap, ◌∙◌, subst, List, ◌++◌, ◌∷◌, [], ◌<◌, length, true}
-use Rattle.model.specs.StreamStates.{most_streams}
+use Rattle.model.specs.Limits.{most_streams}
 use Rattle.conduct.specs.Tidy.{AreKept, is_above_all}
 use Rattle.streams_kept.specs.declared.entries.Entry.{Entry}
 use Rattle.streams_kept.specs.declared.entries.Slot.TheVariants.{Live}

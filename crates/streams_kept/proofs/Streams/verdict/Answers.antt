@@ -6,7 +6,7 @@ use Rattle.streams_kept.specs.Asked.{standing}
 use Rattle.streams_kept.proofs.Asked.{active_is, count_rows}
 use Rattle.streams_kept.proofs.Openings.{allows}
 use Rattle.std.proofs.Common.{arith, ◌≡◌, ◌≤◌, length}
-use Rattle.model.specs.StreamStates.{most_streams}
+use Rattle.model.specs.Limits.{most_streams}
 use Rattle.stream_state.specs.Views.{verdict_in}
 use Rattle.streams_kept.specs.Records.{rows_in}
 use Rattle.streams_kept.specs.Asked.{verdict}

@@ -1,6 +1,6 @@
 use Rattle.std.specs.Prelude.{nat_lt}
 use Rattle.std.proofs.Common.{◌≡◌, true, false, ap, subst, sym, ◌∙◌}
-use Rattle.model.specs.Admission.{most_untaken}
+use Rattle.model.specs.Limits.{most_untaken}
 use Rattle.steps.specs.Resting.{IsSettled}
 use Rattle.gateway.specs.Stands.{Standing, IsFresh}
 use Rattle.gateway.specs.Receiving.{Greets}

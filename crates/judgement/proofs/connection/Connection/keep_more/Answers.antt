@@ -2,7 +2,7 @@ use Rattle.std.proofs.Common.{◌≡◌, ℕ, ◌+◌, ◌≤◌, ◌<◌, List,
 use Rattle.std.specs.Prelude.{is_some, option_map}
 use Rattle.model.specs.Frames.{Frame, content}
 use Rattle.model.specs.Decoding.{Partial}
-use Rattle.model.specs.FrameErrors.{longest_block, most_continuations}
+use Rattle.model.specs.Limits.{longest_block, most_continuations}
 use Rattle.conduct.specs.Rows.{find}
 use Rattle.frames.specs.Views.{frame_of}
 use Rattle.header_blocks.specs.Joining.{Joining}

@@ -3,7 +3,7 @@ use Rattle.std.specs.Prelude.{is_some, option_map}
 use Rattle.std.proofs.lemmas.Bool.{eqb-true}
 use Rattle.model.specs.Frames.{Frame, content}
 use Rattle.model.specs.Decoding.{Partial, joined}
-use Rattle.model.specs.FrameErrors.{longest_block, most_continuations}
+use Rattle.model.specs.Limits.{longest_block, most_continuations}
 use Rattle.frames.specs.Views.{frame_of}
 use Rattle.header_blocks.specs.Joining.{Joining, continues}
 use Rattle.judgement.specs.Inbound.{Inbound}

@@ -4,7 +4,7 @@ use Rattle.std.specs.Prelude.{ℕ, ◌+◌, suc, Bool, false, ◌&&◌, ◌≤�
 use Rattle.model.specs.Errors as errors
 use Rattle.model.specs.Errors.{or_else}
 use Rattle.model.specs.FrameErrors.{fault_if}
-use Rattle.model.specs.ErrorTable.{most_resets}
+use Rattle.model.specs.Limits.{most_resets}
 use Rattle.conduct.specs.Judging.{resets_row_in}
 use Rattle.model.specs.Frames.{Frame}
 use Rattle.model.specs.ErrorTable.{fault_of as fault_by}

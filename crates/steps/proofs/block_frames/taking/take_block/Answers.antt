@@ -6,7 +6,7 @@ use Rattle.relay.specs.View.{View, square, Leads}
 use Rattle.relay.specs.Rest.{IsAtRest}
 use Rattle.relay.specs.contracts.rooms.Rooms.{the_view}
 use Rattle.relay.proofs.Coming.{outside_of}
-use Rattle.model.specs.Admission.{most_untaken}
+use Rattle.model.specs.Limits.{most_untaken}
 use Rattle.steps.specs.Comings.{ComesFrom}
 use Rattle.steps.specs.Inputs.Input.{OfFrame}
 use Rattle.steps.proofs.Results.{on_over}

@@ -10,7 +10,7 @@ use Rattle.upstreams.specs.Connections.{lives}
 use Rattle.policy.specs.Ending.{frames_sent, closed_all}
 use Rattle.relay.specs.Performing.{put_all}
 use Rattle.relay.specs.View.{View}
-use Rattle.model.specs.Admission.{most_untaken}
+use Rattle.model.specs.Limits.{most_untaken}
 use Rattle.steps.specs.ending.Reasons.{code_in}
 use Rattle.steps.proofs.ending.Closes.{on_ok}
 use Rattle.steps.proofs.ending.Farewells.{farewells, ends, code_told}

@@ -1,7 +1,7 @@
 use Rattle.std.proofs.Common.{◌≡◌, ℕ, true, false, ◌<◌, List, length, codes, refl, sym, ◌∙◌, ap, subst}
 use Rattle.std.proofs.lemmas.Result.{on_ok_weaker}
 use Rattle.model.specs.Causes.{is_front_of}
-use Rattle.model.specs.StreamStates.{most_streams}
+use Rattle.model.specs.Limits.{most_streams}
 use Rattle.upstreams.specs.Requests.{due_for, stage_of}
 use Rattle.answers.specs.Waiting.{passing_in}
 use Rattle.marks_kept.specs.Sides.{Side, is_above_all, is_past}

@@ -1,5 +1,5 @@
 use Rattle.std.proofs.Common.{◌≡◌, ◌+◌, false, nat_lt, List, length, sym, ◌∙◌, ap, subst}
-use Rattle.model.specs.Admission.{most_untaken}
+use Rattle.model.specs.Limits.{most_untaken}
 use Rattle.model.specs.Frames.{spell}
 use Rattle.model.specs.Logs.{Output}
 use Rattle.relay.specs.View.{View}

@@ -1,6 +1,6 @@
 use Rattle.std.proofs.Common.{◌≡◌, ℕ, ◌+◌, ◌<◌, true, false, not, nat_lt, List, sym, ◌∙◌, ap, subst, arith}
 use Rattle.std.proofs.lemmas.Bool.{and_parts}
-use Rattle.model.specs.Admission.{most_untaken}
+use Rattle.model.specs.Limits.{most_untaken}
 use Rattle.model.specs.Frames.{spell}
 use Rattle.model.specs.Logs.{Output}
 use Rattle.model.specs.Logs.Output.{ToClient}

@@ -1,6 +1,6 @@
 use Rattle.std.proofs.Common.{◌≡◌, ◌<◌, List, true, length, refl, sym, ◌∙◌, ap, subst}
 use Rattle.std.specs.Prelude.{suc, reverse, map}
-use Rattle.model.specs.Idle.{most_idle}
+use Rattle.model.specs.Limits.{most_idle}
 use Rattle.serving.specs.Lines.{find, idle_beside, answer_by}
 use Rattle.upstreams.specs.Connections.{Connection, number_of, AreBelow, lives, marked_at, is_idle_one, among}
 use Rattle.upstreams.specs.Kept.{State}

@@ -1,5 +1,5 @@
 use Rattle.sockets.proofs.Moving.{lost_twice}
-use Rattle.sockets.proofs.departure.Departure.go_on.Goals as goal
+use Rattle.sockets.proofs.departure.leave_on.Goals as goal
 
 pub returns-in_err-drop_piece-clause-goes : goal.returns-in_err-drop_piece-clause-goes
 returns-in_err-drop_piece-clause-goes g c = lost_twice _ _ _ _ _ c.write_rest.ensures.goes c.drop_piece.ensures

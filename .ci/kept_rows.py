@@ -1,18 +1,24 @@
 #!/usr/bin/env python3
-"""The older rows of `crates/transcripts/data` as they are where upstream connections are kept (RFC 9112, section 9.3).
+"""The older rows of `crates/transcripts/data` as they are where upstream connections are kept (RFC
+9112, section 9.3).
 
-    .ci/kept_rows.py [FOLDER]   writes `kept_older.rows` and the configurations `keep_*.toml` into the folder, by default that of the rows
+    .ci/kept_rows.py [FOLDER]   writes `kept_older.rows` and the configurations `keep_*.toml` into
+                                the folder, by default that of the rows
 
-What becomes of a row is worked out here from its old text and from these rules alone, and not from what a gateway prints:
+What becomes of a row is worked out here from its old text and from these rules alone, and not from
+what a gateway prints:
 
 - A request has no line `connection: close`.
-- Behind a response that is whole, with no octet behind it, its connection is idle in place of closed, where the request was sent whole, the response is of
-  HTTP/1.1, its final head's Connection doesn't say `close`, its end isn't that of the connection, and fewer than eight others are idle.
-- A request goes out on the least idle connection of its route, and opens one only where there is none. So connections have other numbers in what follows.
+- Behind a response that is whole, with no octet behind it, its connection is idle in place of
+  closed, where the request was sent whole, the response is of HTTP/1.1, its final head's Connection
+  doesn't say `close`, its end isn't that of the connection, and fewer than eight others are idle.
+- A request goes out on the least idle connection of its route, and opens one only where there is
+  none. So connections have other numbers in what follows.
 - Where the client's connection ends, idle ones are closed with the others, by rising number.
 
-A row with a repetition is judged by what it prints alone: its other judgements take long, and say of connections nothing that those of others don't.
-Each row that is made is to be read beside the old one before it is committed.
+A row with a repetition is judged by what it prints alone: its other judgements take long, and say
+of connections nothing that those of others don't. Each row that is made is to be read beside the
+old one before it is committed.
 """
 import copy
 import os

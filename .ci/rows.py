@@ -1,9 +1,10 @@
 #!/usr/bin/env python3
 """The rows of `crates/transcripts/data` as scripts of `h2replay`.
 
-    .ci/rows.py     prints the scripts that `crates/refusals` goes through: `crates/refusals/data/rows.scripts` is just this
+    .ci/rows.py     prints the scripts that `crates/refused_memory` goes through: `crates/refused_memory/data/rows.scripts` is just this
 
-How rows are written is said in `crates/transcript_reader/src/lib.rt`, and how their octets are in `notation.rt` beside it.
+How rows are written is said in `crates/transcript_reader/src/lib.rt`, and how their octets are in
+`notation.rt` beside it.
 """
 import os
 import re
@@ -23,9 +24,11 @@ WORDS = {
     "POST": b"POST / HTTP/1.1\r\nhost: www.example.com\r\nvia: 2.0 h2gw\r\n".hex(),
     "CLOSE": b"\r\nconnection: close\r\n\r\n".hex(),
 }
-# The older rows where connections are kept: no growth is refused in their scripts, since they make hardly another than the older rows and `kept.rows`.
+# The older rows where connections are kept: no growth is refused in their scripts, since they make
+# hardly another than the older rows and `kept.rows`.
 OLDER = "kept_older.rows"
-# Of a script with more events, or of more characters, no growth is refused: there would be too many.
+# Of a script with more events, or of more characters, no growth is refused: there would be too
+# many.
 MOST_EVENTS, MOST_CHARACTERS = 1_000, 150_000
 
 
@@ -114,8 +117,8 @@ def config_of(row):
 
 
 def script_of(row):
-    """The script of a row. It begins with `keep` where its configuration keeps connections, and then with the authority of its route, where that has one
-    route alone and that has one."""
+    """The script of a row. It begins with `keep` where its configuration keeps connections, and
+    then with the authority of its route, where that has one route alone and that has one."""
     config = config_of(row)
     keep = ["keep"] if "keep = true" in config else []
     authorities = re.findall(r'^authority = "(.*)"$', config, re.MULTILINE)

@@ -30,8 +30,8 @@ pub(crate) fn encode_known(alloc: Global, rounds: u32, made: &mut Made) -> Optio
     Some(())
 }
 
-/// Encodes 8 fields that don't stand in the full table, as Huffman text: each time the next 8 of 96, of which it has room for
-/// 83.
+/// Encodes 8 fields that don't stand in the full table, as Huffman text: each time the next 8 of
+/// 96, of which it has room for 83.
 pub(crate) fn encode_new(alloc: Global, rounds: u32, made: &mut Made) -> Option<()> {
     let fields = numbered_fields(alloc)?;
     let mut encoder = Encoder::new(alloc, Policy::Indexing);

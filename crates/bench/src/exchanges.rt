@@ -94,8 +94,8 @@ pub(crate) fn fields_of(alloc: Global, head: &[u8]) -> Option<Vec<Field>> {
     }
 }
 
-/// 100 requests of ten fields on a connection, each decoded, checked and written, and a response's head of 8 fields for each,
-/// read and encoded.
+/// 100 requests of ten fields on a connection, each decoded, checked and written, and a response's
+/// head of 8 fields for each, read and encoded.
 pub(crate) fn exchange(alloc: Global, rounds: u32, made: &mut Made) -> Option<()> {
     for _ in 0..rounds {
         made.clear();

@@ -14,8 +14,8 @@ const BEGIN: &[u8] = b"PRI * HTTP/2.0\r\n\r\nSM\r\n\r\n\x00\x00\x00\x04\x00\x00\
 /// How many octets of a request its upstream's side takes at once.
 const TAKEN: u64 = 100;
 
-/// Of which requests a connection consists: some that nobody answers, and then some that are answered one after another, each with
-/// this response.
+/// Of which requests a connection consists: some that nobody answers, and then some that are
+/// answered one after another, each with this response.
 #[derive(Clone, Copy)]
 pub struct Load {
     pub active: u32,
@@ -47,7 +47,8 @@ fn block_at(place: u32) -> &'static [u8] {
     }
 }
 
-/// Adds the HEADERS frame of a connection's request at a place, the preface before the first one (RFC 9113, section 6.2).
+/// Adds the HEADERS frame of a connection's request at a place, the preface before the first one
+/// (RFC 9113, section 6.2).
 fn push_request(place: u32, octets: &mut Vec<u8>) -> Option<()> {
     if place == 0 {
         octets.extend_from_slice(BEGIN).ok()?;

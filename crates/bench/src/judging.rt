@@ -1,9 +1,9 @@
 //! Frames of a client, judged on a connection with few streams and on one with many.
 
 use crate::made::Made;
-use causes::Route;
+use connection_state::{BlockJudged, Connection, Judged, Terms};
 use frames::View;
-use judgement::{BlockJudged, Connection, Judged, Terms};
+use local_replies::RoutePattern;
 use std::alloc::Global;
 
 /// Types of frames (RFC 9113, section 6).
@@ -26,7 +26,8 @@ const MOST: u64 = 1_048_576;
 /// How many frames are judged a round.
 const FRAMES: u32 = 3;
 
-/// How many streams are active on a connection with many, before and behind those that are over: with those that a round opens they are 100.
+/// How many streams are active on a connection with many, before and behind those that are over:
+/// with those that a round opens they are 100.
 const BEFORE: u32 = 50;
 
 const BEHIND: u32 = 47;
@@ -37,7 +38,8 @@ const OVER: u32 = 9_000;
 /// Octets of DATA.
 static CONTENT: [u8; 16384] = [b'x'; 16384];
 
-/// The block of `:method: GET`, `:scheme: http`, `:path: /` and `:authority: h` (RFC 7541, appendix A and section 6.2.2).
+/// The block of `:method: GET`, `:scheme: http`, `:path: /` and `:authority: h` (RFC 7541, appendix
+/// A and section 6.2.2).
 const GET: &[u8] = b"\x82\x86\x84\x01\x01h";
 
 /// That of `:method: GET` alone, which is no request's (RFC 9113, section 8.3.1).
@@ -45,7 +47,7 @@ const METHOD: &[u8] = b"\x82";
 
 /// How many streams a connection has.
 #[derive(Clone, Copy)]
-pub enum Streams {
+pub enum StreamCount {
     Few,
     Many,
 }
@@ -64,13 +66,13 @@ pub enum Judging {
 #[derive(Drop)]
 struct Client {
     connection: Connection,
-    routes: Vec<Route>,
+    routes: Vec<RoutePattern>,
     next: u32,
 }
 
 /// A route for all requests.
-fn routes_of(alloc: Global) -> Option<Vec<Route>> {
-    let route = Route {
+fn routes_of(alloc: Global) -> Option<Vec<RoutePattern>> {
+    let route = RoutePattern {
         authority: Vec::new(alloc),
         prefix: Vec::from_slice(alloc, b"/").ok()?,
     };
@@ -148,12 +150,13 @@ impl Client {
         Some(())
     }
 
-    /// Its settings come, and then the requests that it has before a round: one that is active, or 97 and 9,000 that are over.
-    fn prepare(&mut self, streams: Streams) -> Option<()> {
+    /// Its settings come, and then the requests that it has before a round: one that is active, or
+    /// 97 and 9,000 that are over.
+    fn prepare(&mut self, streams: StreamCount) -> Option<()> {
         self.judge(SETTINGS, 0, 0, b"")?;
         match streams {
-            Streams::Few => self.begin_active(1),
-            Streams::Many => {
+            StreamCount::Few => self.begin_active(1),
+            StreamCount::Many => {
                 self.begin_active(BEFORE)?;
                 self.begin_over(OVER)?;
                 self.begin_active(BEHIND)
@@ -202,7 +205,7 @@ fn judge_one(client: &mut Client, judging: Judging) -> Option<u8> {
 /// Judges frames on a connection with these streams, and keeps the numbers of what comes of them.
 fn judge_frames(
     client: &mut Client,
-    streams: Streams,
+    streams: StreamCount,
     judging: Judging,
     out: &mut Vec<u8>,
 ) -> Option<()> {
@@ -213,12 +216,13 @@ fn judge_frames(
     Some(())
 }
 
-/// Three frames a round, each round on a new connection: PING, WINDOW_UPDATE or DATA on its first stream, HEADERS on new ones.
+/// Three frames a round, each round on a new connection: PING, WINDOW_UPDATE or DATA on its first
+/// stream, HEADERS on new ones.
 pub(crate) fn judge(
     alloc: Global,
     rounds: u32,
     made: &mut Made,
-    streams: Streams,
+    streams: StreamCount,
     judging: Judging,
 ) -> Option<()> {
     for _ in 0..rounds {

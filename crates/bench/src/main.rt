@@ -1,5 +1,6 @@
-//! Drives the layers over fixed samples, so that their instructions can be counted: `bench PART ROUNDS`, where `all` stands
-//! for every part. For each part it prints the name and a checksum of what the last round made.
+//! Drives the layers over fixed samples, so that their instructions can be counted:
+//! `bench PART ROUNDS`, where `all` stands for every part. For each part it prints the name and a
+//! checksum of what the last round made.
 #![tactic(auto)]
 
 mod bodies;
@@ -13,7 +14,7 @@ mod samples;
 mod texts;
 
 use crate::gets::Load;
-use crate::judging::{Judging, Streams};
+use crate::judging::{Judging, StreamCount};
 use crate::made::Made;
 use crate::passed::Passed;
 use crate::samples::{BARE_RESPONSE, CHUNKED_RESPONSE, SMALL_RESPONSE, TRAILING_RESPONSE};
@@ -60,8 +61,8 @@ const PARTS: [&str; 35] = [
     "parts",
 ];
 
-/// The status is 1 for any command line but a part and a number of rounds, where a layer refuses the samples or memory is
-/// refused, and where a write fails.
+/// The status is 1 for any command line but a part and a number of rounds, where a layer refuses
+/// the samples or memory is refused, and where a write fails.
 fn main(rt: HostRuntime) -> ExitCode {
     match run(&rt) {
         Some(()) => ExitCode::SUCCESS,
@@ -141,18 +142,18 @@ fn load_of(part: &str) -> Option<Load> {
 }
 
 /// Which frames a part judges, and on which connection.
-fn judged_by(part: &str) -> Option<(Streams, Judging)> {
+fn judged_by(part: &str) -> Option<(StreamCount, Judging)> {
     match part {
-        "few-none" => Some((Streams::Few, Judging::Nothing)),
-        "few-ping" => Some((Streams::Few, Judging::Ping)),
-        "few-update" => Some((Streams::Few, Judging::WindowUpdate)),
-        "few-data" => Some((Streams::Few, Judging::Data)),
-        "few-headers" => Some((Streams::Few, Judging::Headers)),
-        "many-none" => Some((Streams::Many, Judging::Nothing)),
-        "many-ping" => Some((Streams::Many, Judging::Ping)),
-        "many-update" => Some((Streams::Many, Judging::WindowUpdate)),
-        "many-data" => Some((Streams::Many, Judging::Data)),
-        "many-headers" => Some((Streams::Many, Judging::Headers)),
+        "few-none" => Some((StreamCount::Few, Judging::Nothing)),
+        "few-ping" => Some((StreamCount::Few, Judging::Ping)),
+        "few-update" => Some((StreamCount::Few, Judging::WindowUpdate)),
+        "few-data" => Some((StreamCount::Few, Judging::Data)),
+        "few-headers" => Some((StreamCount::Few, Judging::Headers)),
+        "many-none" => Some((StreamCount::Many, Judging::Nothing)),
+        "many-ping" => Some((StreamCount::Many, Judging::Ping)),
+        "many-update" => Some((StreamCount::Many, Judging::WindowUpdate)),
+        "many-data" => Some((StreamCount::Many, Judging::Data)),
+        "many-headers" => Some((StreamCount::Many, Judging::Headers)),
         _ => None,
     }
 }

@@ -1,4 +1,5 @@
-//! A response that is passed on through the whole gateway: the pieces in which it comes, and the parts in which it goes.
+//! A response that is passed on through the whole gateway: the pieces in which it comes, and the
+//! parts in which it goes.
 
 ghost use Rattle.std.specs.Prelude.{IfSome};
 ghost use Rattle.gateway.specs.Setups.{setup_of, IsServable};

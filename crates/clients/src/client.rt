@@ -5,9 +5,10 @@ ghost use Rattle.gateway.specs.Setups.{setup_of, IsServable};
 
 use crate::log::say_exchanges;
 use crate::watched::Watched;
+use driver::{ServeFault, Service, ServiceEnd, WorldFault};
 use exchange_log::Exchanges;
 use gateway::Passing;
-use h2gw_parts::setting::Setting;
+use h2gw_setup::setting::Setting;
 use mio::Registry;
 use mio::event::Event as Report;
 use mio::net::TcpStream as Socket;
@@ -16,13 +17,12 @@ use std::alloc::Global;
 use std::io;
 use std::net::SocketAddr;
 use std::time::{Duration, Instant};
-use worlds::{Ended, ServeFault, Service, WorldFault};
 
 /// So many turns in a row a client has at most, whether others wait for theirs or not.
 const ROUND: u32 = 16;
 
 /// How serving a client ended.
-pub type Outcome = Result<Ended, ServeFault>;
+pub type Outcome = Result<ServiceEnd, ServeFault>;
 
 /// A client that is there.
 #[derive(Drop)]
@@ -108,7 +108,8 @@ fn exchanges_for(alloc: Global, setting: &Setting) -> Option<Exchanges>
 }
 
 impl<'a> Client<'a> {
-    /// A client that came, with this number, from 1 on. An error is the socket's or the clock's, or says that memory was refused.
+    /// A client that came, with this number, from 1 on. An error is the socket's or the clock's, or
+    /// says that memory was refused.
     pub fn new(
         common: &Common<'a>,
         number: u32,
@@ -160,7 +161,8 @@ impl<'a> Client<'a> {
         Ok(())
     }
 
-    /// Takes turns of it while it has something left, so many in a row at most. The answer is what it has left, and how serving it ended, if that was now.
+    /// Takes turns of it while it has something left, so many in a row at most. The answer is what
+    /// it has left, and how serving it ended, if that was now.
     pub fn go_on(
         &mut self,
         common: &Common<'a>,
@@ -253,7 +255,7 @@ impl<'a> Serving<'a> {
         self.sockets.world.catch_up();
         for _ in 0..ROUND {
             if self.turns == 0 {
-                return Round::Ended(Ok(Ended::Turns));
+                return Round::Ended(Ok(ServiceEnd::Turns));
             }
             self.turns -= 1;
             match self.service.take_turn(&mut self.sockets) {

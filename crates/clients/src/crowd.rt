@@ -2,13 +2,14 @@
 
 ghost use Rattle.std.specs.Prelude.{◌≡◌, ◌<◌, ◌≤◌, length, get_or, vec_len, IfErr, IfSome};
 ghost use Rattle.gateway.specs.Setups.{setup_of, IsServable};
-ghost use Rattle.h2gw_parts.specs.Stops.{status_of};
+ghost use Rattle.h2gw_setup.specs.Stops.{status_of};
 
 use crate::client::{Client, Common, Outcome, Remaining};
 use crate::entrance::{Came, Entrance, Why};
 use crate::log::{say_ended, say_refused};
-use h2gw_parts::setting::Setting;
-use h2gw_parts::stops::Stop;
+use driver::ServeFault;
+use h2gw_setup::setting::Setting;
+use h2gw_setup::stops::Stop;
 use mio::Events;
 use mio::event::Event as Report;
 use mio::net::TcpListener;
@@ -17,7 +18,6 @@ use std::collections::VecDeque;
 use std::io::ErrorKind;
 use std::time::{Duration, Instant};
 use std::{io, net};
-use worlds::ServeFault;
 
 /// After so many seconds it is looked after clients that are idle or being left.
 const TICK: u64 = 1;
@@ -204,7 +204,8 @@ impl<'a> Crowd<'a> {
         }
     }
 
-    /// A client is there. It has turns once something is reported of it, but where it may have none: then it is left at once.
+    /// A client is there. It has turns once something is reported of it, but where it may have
+    /// none: then it is left at once.
     fn keep(&mut self, mut client: Client<'a>, turns: u32) -> Result<(), Stop>
         ensures { IfErr result (λ stop. 2 ≤ status_of stop) }
     {

@@ -2,11 +2,11 @@
 
 ghost use Rattle.std.specs.Prelude.{◌≡◌, ◌≤◌, ◌&&◌, IfErr, not, nat_le, nat_lt, true, false};
 ghost use Rattle.gateway.specs.Setups.{setup_of, IsServable};
-ghost use Rattle.h2gw_parts.specs.Stops.{status_of};
+ghost use Rattle.h2gw_setup.specs.Stops.{status_of};
 
 use crate::client::{Client, Common};
-use h2gw_parts::setting::Setting;
-use h2gw_parts::stops::Stop;
+use h2gw_setup::setting::Setting;
+use h2gw_setup::stops::Stop;
 use mio::net::{TcpListener, TcpStream};
 use mio::{Interest, Registry, Token};
 use std::io;
@@ -16,14 +16,16 @@ use std::net::SocketAddr;
 /// The token under which the listener is reported: that of the client 0, which there isn't.
 const ENTRANCE: Token = Token(0);
 
-/// The errors by which Linux says that too many files are open, in the system or in the program, and that it has no room for one more socket (accept(2)).
+/// The errors by which Linux says that too many files are open, in the system or in the program,
+/// and that it has no room for one more socket (accept(2)).
 const ENFILE: i32 = 23;
 
 const EMFILE: i32 = 24;
 
 const ENOBUFS: i32 = 105;
 
-/// The error by which it says that a firewall forbids a connection, and those of the connection's network, which accept(2) hands on.
+/// The error by which it says that a firewall forbids a connection, and those of the connection's
+/// network, which accept(2) hands on.
 const EPERM: i32 = 1;
 
 const ENONET: i32 = 64;
@@ -179,8 +181,8 @@ impl Entrance {
         }
     }
 
-    /// Whether an error is of the connection alone that came: its client went before it was accepted, or, where there are several places, its network failed or a
-    /// firewall forbids it.
+    /// Whether an error is of the connection alone that came: its client went before it was
+    /// accepted, or, where there are several places, its network failed or a firewall forbids it.
     fn is_of_one(&self, error: &io::Error) -> bool {
         error.kind() == ErrorKind::ConnectionAborted || self.places > 1 && is_of_connection(error)
     }
@@ -211,8 +213,10 @@ impl Entrance {
         }
     }
 
-    /// Nobody can be let in, by this error. Where too many files are open, or there is no room for a socket, that costs the client that waits, if there are
-    /// several: a spare file is closed, so that its connection can be accepted and closed. Where that can't be either, no client is let in for a while.
+    /// Nobody can be let in, by this error. Where too many files are open, or there is no room for
+    /// a socket, that costs the client that waits, if there are several: a spare file is closed, so
+    /// that its connection can be accepted and closed. Where that can't be either, no client is let
+    /// in for a while.
     fn refuse<'a>(&mut self, common: &Common<'a>, error: &io::Error) -> Result<Came<'a>, Stop>
         ensures { IfErr result (λ stop. 2 ≤ status_of stop) }
     {
@@ -232,7 +236,8 @@ impl Entrance {
     }
 }
 
-/// Whether an error is one that accept(2) hands on from the network of a connection, or says that a firewall forbids it.
+/// Whether an error is one that accept(2) hands on from the network of a connection, or says that a
+/// firewall forbids it.
 fn is_of_connection(error: &io::Error) -> bool {
     matches!(
         error.raw_os_error(),

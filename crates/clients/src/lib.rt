@@ -1,5 +1,5 @@
-//! The clients of a program at a listener: one after another, or several at once on one thread, and what is logged of them.
-//! Tests stand in `clients_tests`.
+//! The clients of a program at a listener: one after another, or several at once on one thread, and
+//! what is logged of them. Tests stand in `clients_tests`.
 #![tactic(auto)]
 
 mod client;

@@ -2,16 +2,16 @@
 
 ghost use Rattle.std.specs.Prelude.{◌≡◌, ◌≤◌, ◌&&◌, ◌==◌, IfErr, not};
 ghost use Rattle.gateway.specs.Setups.{setup_of, IsServable};
-ghost use Rattle.h2gw_parts.specs.Stops.{status_of};
+ghost use Rattle.h2gw_setup.specs.Stops.{status_of};
 
 use crate::crowd::serve_crowd;
-use h2gw_parts::setting::Setting;
-use h2gw_parts::stops::Stop;
+use driver::{ServeFault, serve};
+use h2gw_setup::setting::Setting;
+use h2gw_setup::stops::Stop;
 use mio::net::TcpStream as Socket;
 use sockets::SocketWorld;
 use std::io::ErrorKind;
 use std::net::{TcpListener, TcpStream};
-use worlds::{ServeFault, serve};
 
 /// Says where clients connect to, and serves their connections, so many at once as the setting says.
 pub fn serve_clients(rt: &HostRuntime, setting: &Setting) -> Result<(), Stop>
@@ -32,8 +32,10 @@ pub fn serve_clients(rt: &HostRuntime, setting: &Setting) -> Result<(), Stop>
     }
 }
 
-/// Whether one client is served after another, however long it says nothing, and none is told of. This is the default, and has a way of its own (`serve_at`), which
-/// is the program's as it was first described: one client waits for another, an error of accept ends the program, and there is no reactor.
+/// Whether one client is served after another, however long it says nothing, and none is told of.
+/// This is the default, and has a way of its own (`serve_at`), which is the program's as it was
+/// first described: one client waits for another, an error of accept ends the program, and there is
+/// no reactor.
 fn is_plain(setting: &Setting) -> bool
     ensures { result ≡ ((setting.now.clients == 1 && setting.now.idle == 0) && not setting.now.is_logged) }
 {

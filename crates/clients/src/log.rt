@@ -1,14 +1,15 @@
-//! What is said of clients and of exchanges with upstreams on standard error. A write that fails stops nothing; one that waits stops all until it is done.
+//! What is said of clients and of exchanges with upstreams on standard error. A write that fails
+//! stops nothing; one that waits stops all until it is done.
 
 ghost use Rattle.std.specs.Prelude.{◌≡◌};
 
 use crate::client::{Client, Common, Outcome, WatchedSockets};
 use crate::entrance::Why;
+use driver::{ServeFault, ServiceEnd};
 use exchange_log::{End, Exchange, Over};
 use gateway::Passing;
 use std::net::SocketAddr;
 use std::time::Instant;
-use worlds::{Ended, ServeFault};
 
 /// So many exchanges at most are said at once; those behind them are said the next time.
 const SAID_AT_ONCE: u32 = 1024;
@@ -36,8 +37,8 @@ pub fn say_ended(rt: &HostRuntime, client: &Client<'_>, outcome: &Outcome) {
 /// How serving a client ended, in words.
 fn words_of(outcome: &Outcome) -> &'static str {
     match outcome {
-        Ok(Ended::Closed | Ended::Over) => "ended",
-        Ok(Ended::Turns) => "all turns taken",
+        Ok(ServiceEnd::Closed | ServiceEnd::Over) => "ended",
+        Ok(ServiceEnd::Turns) => "all turns taken",
         Err(ServeFault::World) => "connection failed",
         Err(ServeFault::Memory) => "no memory",
         Err(ServeFault::NotAdmitted(_)) => "not admitted",
@@ -69,8 +70,9 @@ pub fn say_exchanges(
     }
 }
 
-/// Says of an exchange of a client that is over with which upstream it was, what the request line is, which status came, how many octets went out and came, how
-/// long it took, and how it ended. No field is said.
+/// Says of an exchange of a client that is over with which upstream it was, what the request line
+/// is, which status came, how many octets went out and came, how long it took, and how it ended. No
+/// field is said.
 fn say_over(common: &Common<'_>, number: u32, address: SocketAddr, over: &Over) {
     let Some(upstream) = common.setting.addresses.get(over.route as usize) else {
         return;
@@ -101,8 +103,8 @@ fn millis_of(rt: &HostRuntime, exchange: &Exchange) -> u128 {
     }
 }
 
-/// How an exchange ended, in words. It is given up where the gateway closes its connection: the client gave the request up or went, the request was refused, or
-/// serving the client ended.
+/// How an exchange ended, in words. It is given up where the gateway closes its connection: the
+/// client gave the request up or went, the request was refused, or serving the client ended.
 fn words_of_end(end: End) -> &'static str {
     match end {
         End::Whole => "whole",

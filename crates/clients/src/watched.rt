@@ -2,14 +2,14 @@
 
 ghost use Rattle.std.specs.Prelude.{◌≡◌, ◌+◌, ◌<◌, ◌^◌, ◌∷◌, ◌++◌, [], true, List, Some, is_ok, IfOk, OnOk, OnErr, if◌then◌else◌};
 ghost use Rattle.model.specs.Logs.{Step};
-ghost use Rattle.outputs.specs.Views.{output_of};
-ghost use Rattle.worlds.specs.Worlds.{AddsEvent, AddsHanded, SaysOver, KeepsRooms, with_outputs};
+ghost use Rattle.effects.specs.Views.{output_of};
+ghost use Rattle.driver.specs.Worlds.{AddsEvent, AddsHanded, SaysOver, KeepsRooms, with_outputs};
 
+use driver::{Next, World, WorldFault};
 use exchange_log::{Exchanges, Over};
 use gateway::{Event, Output};
 use std::alloc::AllocError;
 use std::time::{Clock, Instant};
-use worlds::{Next, World, WorldFault};
 
 /// A world, and its exchanges where they are noted.
 #[derive(Drop)]
@@ -161,7 +161,8 @@ impl<'a, C: Clock, W: World + Drop> World for Watched<'a, C, W> {
         requires { W.failures self.old.world + 1 < 2 ^ 64 }
         ensures calls { W.calls self.new.world ≡ W.calls self.old.world }
         ensures failures { W.failures self.new.world ≡ (if is_ok result then W.failures self.old.world else W.failures self.old.world + 1) }
-        ensures log { OnOk result ((before : List Step) (step : Step) → W.log self.old.world ≡ Some (before ++ step ∷ []) → W.log self.new.world ≡ Some (before ++ with_outputs step (output_of output.now ∷ []) ∷ [])) }
+        ensures log { OnOk result ((before : List Step) (step : Step) → W.log self.old.world ≡ Some (before ++ step ∷ [])
+            → W.log self.new.world ≡ Some (before ++ with_outputs step (output_of output.now ∷ []) ∷ [])) }
         ensures err { OnErr result (W.log self.new.world ≡ W.log self.old.world) }
         ensures handed { W.handed self.new.world ≡ W.handed self.old.world }
         ensures over { W.over self.new.world ≡ W.over self.old.world }

@@ -1,6 +1,8 @@
-//! Tests of `clients` and `exchange_log`: clients that are served after a listener is bound, and what is told of exchanges.
+//! Tests of `clients` and `exchange_log`: clients that are served after a listener is bound, and
+//! what is told of exchanges.
 //!
-//! There is nothing here but tests. They stand apart from the crates so that no crate is proved a second time together with them.
+//! There is nothing here but tests. They stand apart from the crates so that no crate is proved a
+//! second time together with them.
 #![tactic(auto)]
 
 #[cfg(test)]

@@ -5,7 +5,7 @@ ghost use Rattle.gateway.specs.Setups.{setup_of, IsServable};
 
 use clients::{serve_at, serve_crowd};
 use gateway::{Config, Route};
-use h2gw_parts::setting::Setting;
+use h2gw_setup::setting::Setting;
 use std::alloc::{AllocError, Global};
 use std::io;
 use std::io::{Read, Write};
@@ -17,7 +17,8 @@ use std::test::*;
 const REQUEST: &[u8] =
     b"PRI * HTTP/2.0\r\n\r\nSM\r\n\r\n\0\0\0\x04\0\0\0\0\0\0\0\x14\x01\x05\0\0\0\x01\x82\x86\x84\x41\x0fwww.example.com";
 
-/// What a client is sent: the gateway's settings, the acknowledgement of its own, and the status 404, since there is no route.
+/// What a client is sent: the gateway's settings, the acknowledgement of its own, and the status
+/// 404, since there is no route.
 const ANSWER: &[u8] =
     b"\0\0\x0c\x04\0\0\0\0\0\0\x03\0\0\0\x64\0\x06\0\0\x40\0\0\0\0\x04\x01\0\0\0\0\0\0\x05\x01\x05\0\0\0\x01\x8d\x0f\x0d\x01\x30";
 
@@ -142,7 +143,8 @@ fn setting_by(alloc: Global, upstream: SocketAddr) -> Result<Setting, AllocError
 fn two_clients_are_served_at_once(rt: HostRuntime) -> Result<(), Fail> {
     let listener = TcpListener::bind(&rt, SocketAddr::from((Ipv4Addr::LOCALHOST, 0)))?;
     let here = listener.local_addr()?;
-    // The gateway is its own upstream: the first client is answered only once the second, which is the gateway itself, is told that it doesn't speak HTTP/2.
+    // The gateway is its own upstream: the first client is answered only once the second, which is
+    // the gateway itself, is told that it doesn't speak HTTP/2.
     let setting = setting_by(rt.alloc(), here)?;
     let mut client = TcpStream::connect(&rt, here)?;
     client.write_all(REQUEST)?;

@@ -1,4 +1,6 @@
--- The command line `h2gw --config FILE --listen ADDR --connections N --turns N [--clients N] [--idle SECONDS] [--log]`, by `clap`'s meaning of a simple command.
+-- The command line
+-- `h2gw --config FILE --listen ADDR --connections N --turns N [--clients N] [--idle SECONDS] [--log]`,
+-- by `clap`'s meaning of a simple command.
 use Rattle.std.specs.Prelude.{◌≡◌, ◌↔◌, ℕ, IsTrue, List, [], Option, Some, None, IsSome, string_bytes, codes, ⊤}
 use Rattle.clap.specs.Words.{App, Text, new_app, with_rule, matches_of, first_of, fault_of, kind_of, IsAmong, first_value}
 use Rattle.clap.specs.declared.parser.matches.Found.{Found}
@@ -12,7 +14,8 @@ use Rattle.command_line.specs.Values.{name_of, option_rule, flag_rule, IsCount, 
 
 -- the command with the words alone that are needed, as `clap` reads it
 abbrev pub needed_app : App
-needed_app = with_rule (with_rule (with_rule (with_rule (new_app (codes "h2gw")) (option_rule value.Config)) (option_rule value.Listen)) (option_rule value.Connections)) (option_rule value.Turns)
+needed_app = with_rule (with_rule (with_rule (with_rule (new_app (codes "h2gw")) (option_rule value.Config)) (option_rule value.Listen))
+    (option_rule value.Connections)) (option_rule value.Turns)
 
 -- the command
 abbrev pub gateway_app : App
@@ -43,8 +46,9 @@ pub record HasNeeded (find : Word → Option Text) : Type 0 where
   pub connections : (count : ℕ) × IsCount (find value.Connections) count
   pub turns : (count : ℕ) × IsCount (find value.Turns) count
 
--- Each value before this one, in the order `config`, `listen`, `connections`, `turns`, `clients`, `idle`, is there where it is needed, and a number where it has to be. There is no
--- script, and a flag is no value.
+-- Each value before this one, in the order `config`, `listen`, `connections`, `turns`, `clients`,
+-- `idle`, is there where it is needed, and a number where it has to be. There is no script, and a
+-- flag is no value.
 abbrev pub IsReached : (Word → Option Text) → Word → Type 0
 IsReached find value.Config = ⊤
 IsReached find value.Listen = IsSome (find value.Config)

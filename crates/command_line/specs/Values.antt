@@ -60,4 +60,5 @@ IsCountWithin range (Some text) count = IsNumber text count × (range.least ≤ 
 -- Why there is no number in a range: a value was found that is none.
 abbrev pub IsNoCountWithin : Range → Option Text → Word → WordsFault → Type 0
 IsNoCountWithin range None word fault = ⊥
-IsNoCountWithin range (Some text) word fault = (fault ≡ NotANumber word) × ((number : ℕ) → IsNumber text number → range.least ≤ number → number ≤ range.most → ⊥)
+IsNoCountWithin range (Some text) word fault = (fault ≡ NotANumber word)
+    × ((number : ℕ) → IsNumber text number → range.least ≤ number → number ≤ range.most → ⊥)

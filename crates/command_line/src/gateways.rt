@@ -59,9 +59,11 @@ pub struct GatewayWords {
     pub is_logged: bool,
 }
 
-/// Reads the gateway's command line, from the program's name on: `--config FILE --listen ADDR --connections N --turns N`, in
-/// any order, each once and none left out, and `--clients N`, 1 to 1,024, `--idle SECONDS` and `--log`, each once or left out. `--help` and what isn't such a
-/// line is a fault, and so is the first value, in the order above, that is missing or no such number.
+/// Reads the gateway's command line, from the program's name on:
+/// `--config FILE --listen ADDR --connections N --turns N`, in any order, each once and none left
+/// out, and `--clients N`, 1 to 1,024, `--idle SECONDS` and `--log`, each once or left out.
+/// `--help` and what isn't such a line is a fault, and so is the first value, in the order above,
+/// that is missing or no such number.
 pub fn read_gateway_words<'a>(
     alloc: Global,
     words: &'a [&'a str],

@@ -23,8 +23,8 @@ pub struct ReplayWords {
     pub script: String,
 }
 
-/// Reads the replay's command line, from the program's name on: `[--config FILE] SCRIPT`. `--help` and what isn't such a line is
-/// a fault, and so is one without a script.
+/// Reads the replay's command line, from the program's name on: `[--config FILE] SCRIPT`. `--help`
+/// and what isn't such a line is a fault, and so is one without a script.
 pub fn read_replay_words<'a>(alloc: Global, words: &'a [&'a str]) -> Result<ReplayWords, WordsFault>
     ensures ok { IfOk result (λ values. Means (map (λ word. word.now) words.entry.now) values) }
     ensures err { IfErr result (λ fault. Refuses (map (λ word. word.now) words.entry.now) fault) }

@@ -9,7 +9,8 @@ use Rattle.configuration.specs.declared.faults.Key.TheVariants as key
 use Rattle.configuration.specs.declared.faults.ConfigFault.{ConfigFault}
 use Rattle.configuration.specs.declared.faults.ConfigFault.TheVariants.{NotToml, Bad, UnknownKey, Memory}
 use Rattle.configuration.specs.Lines.{name_of}
-use Rattle.configuration.specs.Keys.{text_at, number_at, bool_at, array_at, IsPolicy, IsPassing, IsMost, IsKeep, AreTables, IsAuthority, IsPrefix, IsUpstream, IsRight}
+use Rattle.configuration.specs.Keys.{text_at, number_at, bool_at, array_at, IsPolicy, IsPassing, IsMost, IsKeep}
+use Rattle.configuration.specs.Keys.{AreTables, IsAuthority, IsPrefix, IsUpstream, IsRight}
 
 -- The keys in the order in which they are judged: those of the whole table, and those of each route.
 abbrev pub table_keys : List Key

@@ -44,8 +44,8 @@ pub enum ConfigFault {
 }
 
 impl ConfigFault {
-    /// What a program says of it, in one line without its end: `config: not TOML`, `config: bad KEY` with the name of the key,
-    /// `config: unknown key`, or `config: no memory`.
+    /// What a program says of it, in one line without its end: `config: not TOML`,
+    /// `config: bad KEY` with the name of the key, `config: unknown key`, or `config: no memory`.
     pub fn line(self) -> &'static str
         ensures { result.now ≡ line_of self }
     {

@@ -4,7 +4,9 @@ ghost use Rattle.std.specs.Prelude.{◌≡◌, List, map, MatchOption, is_some, 
 ghost use Rattle.std.specs.List.{list_all};
 ghost use Rattle.toml.specs.Data.{Members, get_member, as_table, table as as_data};
 ghost use Rattle.toml.specs.View.{view, table_view};
-ghost use Rattle.configuration.specs.Keys.{text_at as the_text, number_at as the_number, bool_at as the_bool, IsPolicy, IsPassing, IsMost, IsKeep, IsAuthority, IsPrefix, IsUpstream, array_at, AreTables, Lacks};
+ghost use Rattle.configuration.specs.Keys.{text_at as the_text, number_at as the_number, bool_at as the_bool, IsPolicy};
+ghost use Rattle.configuration.specs.Keys.{IsPassing, IsMost, IsKeep, IsAuthority, IsPrefix, IsUpstream, array_at};
+ghost use Rattle.configuration.specs.Keys.{AreTables, Lacks};
 
 use gateway::{Passing, Policy};
 use std::net::SocketAddr;
@@ -52,7 +54,8 @@ fn bool_at(table: &Table, key: &str) -> Option<Option<bool>>
 
 /// How header blocks are written.
 pub fn policy_in(table: &Table) -> Option<Policy>
-    ensures { MatchOption result (Lacks (IsPolicy (the_text (codes "policy") (table_view table.now)))) (IsPolicy (the_text (codes "policy") (table_view table.now))) }
+    ensures { MatchOption result (Lacks (IsPolicy (the_text (codes "policy") (table_view table.now))))
+        (IsPolicy (the_text (codes "policy") (table_view table.now))) }
 {
     match text_at(table, "policy") {
         None | Some(Some("plain")) => Some(Policy::Plain),
@@ -63,7 +66,8 @@ pub fn policy_in(table: &Table) -> Option<Policy>
 
 /// How bodies are passed on.
 pub fn passing_in(table: &Table) -> Option<Passing>
-    ensures { MatchOption result (Lacks (IsPassing (the_text (codes "passing") (table_view table.now)))) (IsPassing (the_text (codes "passing") (table_view table.now))) }
+    ensures { MatchOption result (Lacks (IsPassing (the_text (codes "passing") (table_view table.now))))
+        (IsPassing (the_text (codes "passing") (table_view table.now))) }
 {
     match text_at(table, "passing") {
         None | Some(Some("whole")) => Some(Passing::Whole),
@@ -97,7 +101,8 @@ pub fn keep_in(table: &Table) -> Option<bool>
 
 /// The authority of a route's requests.
 pub fn authority_in(table: &Table) -> Option<&str>
-    ensures { MatchOption result (Lacks (IsAuthority (the_text (codes "authority") (table_view table.now)))) (λ text. IsAuthority (the_text (codes "authority") (table_view table.now)) text.now) }
+    ensures { MatchOption result (Lacks (IsAuthority (the_text (codes "authority") (table_view table.now))))
+        (λ text. IsAuthority (the_text (codes "authority") (table_view table.now)) text.now) }
 {
     match text_at(table, "authority") {
         None => Some(""),
@@ -107,7 +112,8 @@ pub fn authority_in(table: &Table) -> Option<&str>
 
 /// What the paths of a route's requests begin with.
 pub fn prefix_in(table: &Table) -> Option<&str>
-    ensures { MatchOption result (Lacks (IsPrefix (the_text (codes "prefix") (table_view table.now)))) (λ text. IsPrefix (the_text (codes "prefix") (table_view table.now)) text.now) }
+    ensures { MatchOption result (Lacks (IsPrefix (the_text (codes "prefix") (table_view table.now))))
+        (λ text. IsPrefix (the_text (codes "prefix") (table_view table.now)) text.now) }
 {
     match text_at(table, "prefix") {
         Some(Some(text)) if text.starts_with("/") => Some(text),
@@ -117,7 +123,8 @@ pub fn prefix_in(table: &Table) -> Option<&str>
 
 /// The address of a route's upstream.
 pub fn upstream_in(table: &Table) -> Option<&str>
-    ensures { MatchOption result (Lacks (IsUpstream (the_text (codes "upstream") (table_view table.now)))) (λ text. IsUpstream (the_text (codes "upstream") (table_view table.now)) text.now) }
+    ensures { MatchOption result (Lacks (IsUpstream (the_text (codes "upstream") (table_view table.now))))
+        (λ text. IsUpstream (the_text (codes "upstream") (table_view table.now)) text.now) }
 {
     match text_at(table, "upstream") {
         Some(Some(text)) if text.parse::<SocketAddr>().is_ok() => Some(text),
@@ -127,7 +134,8 @@ pub fn upstream_in(table: &Table) -> Option<&str>
 
 /// The tables of the routes, of which there aren't too many.
 pub fn routes_in(table: &Table) -> Option<&[Value]>
-    ensures { MatchOption result (Lacks (AreTables (array_at (codes "route") (table_view table.now)))) (λ values. (tables : List Members) × (map view values.now ≡ map as_data tables) × AreTables (array_at (codes "route") (table_view table.now)) tables) }
+    ensures { MatchOption result (Lacks (AreTables (array_at (codes "route") (table_view table.now)))) (λ values. (tables : List Members)
+        × (map view values.now ≡ map as_data tables) × AreTables (array_at (codes "route") (table_view table.now)) tables) }
 {
     let Some(value) = value_at(table, "route") else {
         return Some(&[]);

@@ -18,20 +18,23 @@ use gateway::{Config, Route};
 use std::alloc::Global;
 use toml::{Table, Value};
 
-/// Reads a configuration, which is a table of TOML. Each key may be left out but the two that a route needs:
+/// Reads a configuration, which is a table of TOML. Each key may be left out but the two that a
+/// route needs:
 ///
 /// - `policy`, how header blocks are written: `"plain"`, the default, or `"indexing"`.
 /// - `passing`, how bodies are passed on: `"whole"`, the default, or `"streaming"`, as they come.
-/// - `max_body` and `max_response`, the most octets of a request's body, and of a response's where bodies are passed on whole: 0 to
-///   1,073,741,824, and 1,048,576 by default.
-/// - `keep`, whether upstream connections are kept for further requests: `false`, the default, or `true`.
+/// - `max_body` and `max_response`, the most octets of a request's body, and of a response's where
+///   bodies are passed on whole: 0 to 1,073,741,824, and 1,048,576 by default.
+/// - `keep`, whether upstream connections are kept for further requests: `false`, the default, or
+///   `true`.
 /// - `route`, an array of at most 4,294,967,295 tables, none by default, each with
 ///   - `authority`, that of the requests: a text, empty by default, which is any authority;
 ///   - `prefix`, what their paths begin with: a text that begins with `/`;
 ///   - `upstream`, where they go: a numeric address and port.
 ///
-/// The keys are judged in this order, the routes one after another, and the first that is wrong is named. That there is
-/// another key comes after all of them. `Memory` is answered where a growth was refused.
+/// The keys are judged in this order, the routes one after another, and the first that is wrong is
+/// named. That there is another key comes after all of them. `Memory` is answered where a growth
+/// was refused.
 pub fn read_config(alloc: Global, text: &str) -> Result<Config, ConfigFault>
     ensures ok { IfOk result (λ config. Configures (parse_document text.now) config) }
     ensures err { IfErr result (λ fault. ConfiguresNothing (parse_document text.now) fault) }

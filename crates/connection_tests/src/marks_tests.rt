@@ -1,7 +1,7 @@
 //! Marks with ample memory.
 
-use marks_kept::Marks;
 use std::test::*;
+use window_credit::Marks;
 
 #[test]
 fn octets_wait_until_all_is_taken(rt: HostRuntime) -> Result<(), Fail> {

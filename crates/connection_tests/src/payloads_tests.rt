@@ -78,8 +78,8 @@ fn plain(kind: u8, flags: u8, payload: &[u8]) -> Result<Frame<'_>, FrameFault> {
     }
 }
 
-/// The first length of payload at the front of the octets, of at most 20, that is read in another way than the plain program
-/// reads it.
+/// The first length of payload at the front of the octets, of at most 20, that is read in another
+/// way than the plain program reads it.
 fn first_that_differs(kind: u8, flags: u8, octets: &[u8; 20]) -> Option<usize> {
     for length in 0..=20 {
         let payload = &octets[..length];

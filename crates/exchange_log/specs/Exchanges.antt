@@ -1,5 +1,6 @@
 -- What a log notes of an exchange with an upstream, and what it tells of it.
-use Rattle.std.specs.Prelude.{◌≡◌, ◌≢◌, ℕ, ◌+◌, ◌-◌, ◌<◌, ◌^◌, ◌⊎◌, min, Bool, true, false, List, [], ◌∷◌, ◌++◌, All, length, codes, Option, Some, None, nat_lt, if◌then◌else◌, ◌||◌, MatchOption}
+use Rattle.std.specs.Prelude.{◌≡◌, ◌≢◌, ℕ, ◌+◌, ◌-◌, ◌<◌, ◌^◌, ◌⊎◌, min, Bool, true, false, List, [], ◌∷◌, ◌++◌, All}
+use Rattle.std.specs.Prelude.{length, codes, Option, Some, None, nat_lt, if◌then◌else◌, ◌||◌, MatchOption}
 use Rattle.std.specs.Option.{option_or, option_map}
 use Rattle.std.specs.Ordering.{nat_cmp}
 use Rattle.std.specs.BTreeMap.{BTreeMap, get, IsUnchanged, Updates}
@@ -12,7 +13,7 @@ use Rattle.h1_reader.specs.declared.reader.Ended.TheVariants as reader
 use Rattle.exchange_log.specs.declared.exchange.End.{End}
 use Rattle.exchange_log.specs.declared.exchange.End.TheVariants.{Whole, Refused, Reset, EndedEarly, NoResponse, Malformed, TooLong, GivenUp}
 use Rattle.exchange_log.specs.declared.exchange.Exchange.{Exchange}
-use Rattle.exchange_log.specs.declared.exchanges.Connection.{Connection}
+use Rattle.exchange_log.specs.declared.exchanges.LoggedConnection.{LoggedConnection}
 use Rattle.exchange_log.specs.declared.exchanges.Fate.{Fate}
 use Rattle.exchange_log.specs.declared.exchanges.Fate.TheVariants.{Ended, Failed, Closed}
 use Rattle.exchange_log.specs.declared.exchanges.Over.{Over}
@@ -107,8 +108,8 @@ and_over overs None = overs
 and_over overs (Some over) = overs ++ over ∷ []
 
 -- This becomes of the connection with this number, if it is open, and nothing of others.
-abbrev pub Becomes : ℕ → BTreeMap ℕ Connection → BTreeMap ℕ Connection → (Connection → Option Connection → Type 0) → Type 0
-Becomes k old new Is = MatchOption (get nat_cmp old k) (IsUnchanged old new) (λ c. (c' : Option Connection) × Updates nat_cmp old new k c' × Is c c')
+abbrev pub Becomes : ℕ → BTreeMap ℕ LoggedConnection → BTreeMap ℕ LoggedConnection → (LoggedConnection → Option LoggedConnection → Type 0) → Type 0
+Becomes k old new Is = MatchOption (get nat_cmp old k) (IsUnchanged old new) (λ c. (c' : Option LoggedConnection) × Updates nat_cmp old new k c' × Is c c')
 
 -- an exchange, if there is one, of which octets were taken
 abbrev pub taken_by : Option Exchange → Option Exchange
@@ -116,24 +117,24 @@ taken_by None = None
 taken_by (Some e) = Some (record e { is_taken = true })
 
 -- a connection of which octets were taken
-abbrev pub taken : Connection → Connection
+abbrev pub taken : LoggedConnection → LoggedConnection
 taken c = record { route = c.route; exchange = taken_by c.exchange }
 
 -- Octets of the connection with this number came, if it is open: with them its exchange goes on, or is over and to be told.
-abbrev pub HeardAt : ℕ → List ℕ → BTreeMap ℕ Connection → BTreeMap ℕ Connection → List Over → List Over → Type 0
+abbrev pub HeardAt : ℕ → List ℕ → BTreeMap ℕ LoggedConnection → BTreeMap ℕ LoggedConnection → List Over → List Over → Type 0
 HeardAt k octets old new overs overs' =
     MatchOption (get nat_cmp old k) (IsUnchanged old new × (overs' ≡ overs))
-    (λ c. (c' : Connection) × (over : Option Over) × Updates nat_cmp old new k (Some c') × (overs' ≡ and_over overs over)
+    (λ c. (c' : LoggedConnection) × (over : Option Over) × Updates nat_cmp old new k (Some c') × (overs' ≡ and_over overs over)
     × (c'.route ≡ c.route) × IsHeardBy c.route c.exchange octets over c'.exchange)
 
 -- It is closed, if it is open, and its exchange, if it has one, is over with one of these ends, and to be told.
-abbrev pub EndedAt : ℕ → (Exchange → End → Type 0) → BTreeMap ℕ Connection → BTreeMap ℕ Connection → List Over → List Over → Type 0
+abbrev pub EndedAt : ℕ → (Exchange → End → Type 0) → BTreeMap ℕ LoggedConnection → BTreeMap ℕ LoggedConnection → List Over → List Over → Type 0
 EndedAt k IsEnding old new overs overs' =
     MatchOption (get nat_cmp old k) (IsUnchanged old new × (overs' ≡ overs))
     (λ c. Updates nat_cmp old new k None × MatchOption c.exchange (overs' ≡ overs)
     (λ e. (end : End) × IsEnding e end × (overs' ≡ overs ++ record { route = c.route; exchange = e; end = end } ∷ [])))
 
 -- those that are over once these connections are closed in turn: the exchange of each is given up, if it has one
-abbrev pub all_given_up : List Over → List (ℕ × Connection) → List Over
+abbrev pub all_given_up : List Over → List (ℕ × LoggedConnection) → List Over
 all_given_up overs [] = overs
 all_given_up overs (entry ∷ entries) = all_given_up (and_over overs (over_by entry.1.route GivenUp entry.1.exchange)) entries

@@ -18,7 +18,8 @@ use std::time::Instant;
 pub enum End {
     /// The response is whole.
     Whole,
-    /// The connection failed before its side took an octet and before one came: there is no server, or none that takes connections.
+    /// The connection failed before its side took an octet and before one came: there is no server,
+    /// or none that takes connections.
     Refused,
     /// The connection failed.
     Reset,
@@ -30,7 +31,8 @@ pub enum End {
     Malformed,
     /// What came is longer than a response that is passed on whole may be.
     TooLong,
-    /// The gateway closed the connection before the exchange was over: the client gave the request up, or went, its request was refused, or serving it ended.
+    /// The gateway closed the connection before the exchange was over: the client gave the request
+    /// up, or went, its request was refused, or serving it ended.
     GivenUp,
 }
 
@@ -130,8 +132,9 @@ fn is_whole(pieces: &[Piece]) -> bool
 }
 
 impl Exchange {
-    /// An exchange that begins with octets that are put out, the whole head of its request, now, where a clock told that. The body of its response may have at most so many
-    /// octets, or any number. An `Err` says that memory was refused.
+    /// An exchange that begins with octets that are put out, the whole head of its request, now,
+    /// where a clock told that. The body of its response may have at most so many octets, or any
+    /// number. An `Err` says that memory was refused.
     pub fn begin(
         alloc: Global,
         text: &[u8],

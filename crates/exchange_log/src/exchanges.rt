@@ -3,7 +3,8 @@
 ghost use Rattle.std.specs.Prelude.{◌≡◌, Some, None, [], ◌∷◌, ◌++◌, MatchOption, OnOk, IfOk, is_none, false};
 ghost use Rattle.std.specs.Ordering.{nat_cmp};
 ghost use Rattle.std.specs.BTreeMap.{Updates, get};
-ghost use Rattle.exchange_log.specs.Exchanges.{IsPutBy, IsHeardBy, IsEndedBy, IsOverBy, Becomes, HeardAt, EndedAt, and_over, over_by, all_given_up, end_by_failure, taken};
+ghost use Rattle.exchange_log.specs.Exchanges.{IsPutBy, IsHeardBy, IsEndedBy, IsOverBy, Becomes, HeardAt, EndedAt};
+ghost use Rattle.exchange_log.specs.Exchanges.{and_over, over_by, all_given_up, end_by_failure, taken};
 
 use crate::exchange::{End, Exchange};
 use std::alloc::{AllocError, Global};
@@ -12,7 +13,7 @@ use std::time::Instant;
 
 /// An open connection: the place of its route, and its exchange, unless it is idle.
 #[derive(Drop)]
-pub struct Connection {
+pub struct LoggedConnection {
     route: u32,
     exchange: Option<Exchange>,
 }
@@ -46,7 +47,7 @@ pub struct Exchanges {
     /// The most octets of a response's body, or any number.
     most: Option<u64>,
     /// Those that are open, by their numbers.
-    connections: BTreeMap<u32, Connection>,
+    connections: BTreeMap<u32, LoggedConnection>,
     over: VecDeque<Over>,
 }
 
@@ -61,7 +62,7 @@ fn end_by(fate: Fate, exchange: &Exchange) -> End
     }
 }
 
-impl Connection {
+impl LoggedConnection {
     /// The exchange ends, if there is one.
     fn finish(&mut self, end: End) -> Option<Over>
         ensures over { result ≡ over_by self.old.route end self.old.exchange }
@@ -102,7 +103,8 @@ impl Connection {
         }
     }
 
-    /// Octets came. The answer is the exchange that is over with them, if one is. Those of an idle connection belong to none.
+    /// Octets came. The answer is the exchange that is over with them, if one is. Those of an idle
+    /// connection belong to none.
     fn hear(&mut self, alloc: Global, octets: &[u8]) -> Result<Option<Over>, AllocError>
         ensures heard { IfOk result (λ over. IsHeardBy self.old.route self.old.exchange octets.now over self.new.exchange) }
         ensures route { self.new.route ≡ self.old.route }
@@ -135,7 +137,7 @@ impl Exchanges {
         ensures connections { OnOk result (Updates nat_cmp self.old.connections self.new.connections k (Some (record { route = route; exchange = None }))) }
         ensures over { self.new.over ≡ self.old.over }
     {
-        let connection = Connection {
+        let connection = LoggedConnection {
             route,
             exchange: None,
         };
@@ -153,9 +155,12 @@ impl Exchanges {
         }
     }
 
-    /// Octets are put out for a connection: its exchange goes on with them, or one begins, with the whole head of a request, now, where a clock told that. An `Err` says that memory was refused.
+    /// Octets are put out for a connection: its exchange goes on with them, or one begins, with the
+    /// whole head of a request, now, where a clock told that. An `Err` says that memory was
+    /// refused.
     pub fn put(&mut self, k: u32, text: &[u8], now: Option<Instant>) -> Result<(), AllocError>
-        ensures connections { OnOk result (Becomes k self.old.connections self.new.connections (λ old new. (c : Connection) × (new ≡ Some c) × (c.route ≡ old.route) × IsPutBy old.exchange text.now self.old.most now c.exchange)) }
+        ensures connections { OnOk result (Becomes k self.old.connections self.new.connections (λ old new. (c : LoggedConnection) × (new ≡ Some c)
+            × (c.route ≡ old.route) × IsPutBy old.exchange text.now self.old.most now c.exchange)) }
         ensures over { self.new.over ≡ self.old.over }
     {
         match self.connections.get_mut(&k) {
@@ -196,24 +201,27 @@ impl Exchanges {
 
     /// A connection failed. An `Err` says that memory was refused.
     pub fn fail(&mut self, k: u32) -> Result<(), AllocError>
-        ensures { OnOk result (EndedAt k (λ exchange end. end ≡ end_by_failure exchange) self.old.connections self.new.connections self.old.over.items self.new.over.items) }
+        ensures { OnOk result (EndedAt k (λ exchange end. end
+            ≡ end_by_failure exchange) self.old.connections self.new.connections self.old.over.items self.new.over.items) }
     {
         self.finish(k, Fate::Failed)
     }
 
-    /// The gateway closes a connection, whose exchange is given up, if it has one. An `Err` says that memory was refused.
+    /// The gateway closes a connection, whose exchange is given up, if it has one. An `Err` says
+    /// that memory was refused.
     pub fn close(&mut self, k: u32) -> Result<(), AllocError>
         ensures { OnOk result (EndedAt k (λ _ end. end ≡ End.GivenUp) self.old.connections self.new.connections self.old.over.items self.new.over.items) }
     {
         self.finish(k, Fate::Closed)
     }
 
-    /// This becomes of a connection: it isn't open any more, and its exchange, if it has one, is to be told. An `Err` says that memory was refused.
+    /// This becomes of a connection: it isn't open any more, and its exchange, if it has one, is to
+    /// be told. An `Err` says that memory was refused.
     fn finish(&mut self, k: u32, fate: Fate) -> Result<(), AllocError>
         ensures { OnOk result (EndedAt k (IsOverBy fate) self.old.connections self.new.connections self.old.over.items self.new.over.items) }
     {
         let Some(
-            Connection {
+            LoggedConnection {
                 route,
                 exchange: Some(exchange),
             },
@@ -229,8 +237,8 @@ impl Exchanges {
         })
     }
 
-    /// All open connections are closed, in the order of their numbers, and the exchange of each is given up, if it has one. An `Err` says that memory was
-    /// refused.
+    /// All open connections are closed, in the order of their numbers, and the exchange of each is
+    /// given up, if it has one. An `Err` says that memory was refused.
     pub fn close_all(&mut self) -> Result<(), AllocError>
         ensures connections { OnOk result (self.new.connections.entries ≡ []) }
         ensures over { OnOk result (self.new.over.items ≡ all_given_up self.old.over.items self.old.connections.entries) }
@@ -242,7 +250,7 @@ impl Exchanges {
     }
 
     /// The exchange of a connection that is closed is given up, if there is one.
-    fn give_up(&mut self, mut connection: Connection) -> Result<(), AllocError>
+    fn give_up(&mut self, mut connection: LoggedConnection) -> Result<(), AllocError>
         ensures over { OnOk result (self.new.over.items ≡ and_over self.old.over.items (over_by connection.route End.GivenUp connection.exchange)) }
         ensures connections { self.new.connections ≡ self.old.connections }
     {

@@ -4,7 +4,8 @@ ghost use Rattle.std.specs.Prelude.{◌≡◌, length, not, true, false, ◌&&�
 ghost use Rattle.std.specs.List.{list_all, list_any};
 ghost use Rattle.model.specs.Octets.{some_of, is_value, is_digit, lower};
 ghost use Rattle.model.specs.Http1.{values_of};
-ghost use Rattle.model.specs.Http2.{first_of, is_pseudo, pseudo_fields, regular_fields, is_path_for, known_names, is_name_octet, connection_names, names_not_in_trailers};
+ghost use Rattle.model.specs.Http2.{first_of, is_pseudo, pseudo_fields, regular_fields, is_path_for, known_names};
+ghost use Rattle.model.specs.Http2.{is_name_octet, connection_names, names_not_in_trailers};
 ghost use Rattle.field_rules.specs.Ordinary.{judged_names, is_ordinary, EndsOrdinary, IsShortest};
 
 use crate::octets;
@@ -34,8 +35,8 @@ pub fn count(head: &[Field], name: &[u8]) -> usize
     head.iter().filter(|field| is_named(field, name)).count()
 }
 
-/// Whether no trailers pass on a field of this name (RFC 9110, section 6.5.1): those that frame or route a message, that are acted on before its
-/// body is read, or that say who asks.
+/// Whether no trailers pass on a field of this name (RFC 9110, section 6.5.1): those that frame or
+/// route a message, that are acted on before its body is read, or that say who asks.
 pub fn is_kept_from_trailers(field: &Field) -> bool
     ensures { result ≡ list_any (bytes_eq field.now.name) names_not_in_trailers }
 {
@@ -148,7 +149,8 @@ pub fn te_holds(head: &[Field]) -> bool
 
 /// Whether the field is no scheme or names one that is taken.
 fn scheme_holds_of(field: &Field) -> bool
-    ensures { result ≡ (not (bytes_eq field.now.name (codes ":scheme")) || (bytes_eq field.now.value (codes "http") || bytes_eq field.now.value (codes "https"))) }
+    ensures { result ≡ (not (bytes_eq field.now.name (codes ":scheme"))
+        || (bytes_eq field.now.value (codes "http") || bytes_eq field.now.value (codes "https"))) }
 {
     !is_named(field, b":scheme")
         || field.value() == b"http".as_slice()
@@ -157,7 +159,8 @@ fn scheme_holds_of(field: &Field) -> bool
 
 /// Whether each scheme is `http` or `https`.
 pub fn scheme_holds(head: &[Field]) -> bool
-    ensures { result ≡ list_all (λ field. not (bytes_eq field.name (codes ":scheme")) || (bytes_eq field.value (codes "http") || bytes_eq field.value (codes "https"))) head.now }
+    ensures { result ≡ list_all (λ field. not (bytes_eq field.name (codes ":scheme"))
+        || (bytes_eq field.value (codes "http") || bytes_eq field.value (codes "https"))) head.now }
 {
     head.iter().all(|field| scheme_holds_of(field))
 }
@@ -206,7 +209,8 @@ fn length_holds_of(field: &Field) -> bool
 
 /// Whether each content-length has 1 to 18 digits.
 pub fn lengths_hold(head: &[Field]) -> bool
-    ensures { result ≡ list_all (λ field. not (bytes_eq field.name (codes "content-length")) || (some_of is_digit field.value && nat_le (length field.value) 18)) head.now }
+    ensures { result ≡ list_all (λ field. not (bytes_eq field.name (codes "content-length"))
+        || (some_of is_digit field.value && nat_le (length field.value) 18)) head.now }
 {
     head.iter().all(|field| length_holds_of(field))
 }
@@ -238,7 +242,8 @@ pub fn are_regular(head: &[Field]) -> bool
 
 /// Whether the pseudo-fields stand first (RFC 9113, section 8.3).
 pub fn stand_first(head: &[Field]) -> bool
-    ensures { MatchBool result (head.now ≡ pseudo_fields head.now ++ regular_fields head.now) (head.now ≡ pseudo_fields head.now ++ regular_fields head.now → ⊥) }
+    ensures { MatchBool result (head.now ≡ pseudo_fields head.now ++ regular_fields head.now) (head.now ≡ pseudo_fields head.now ++ regular_fields head.now
+        → ⊥) }
 {
     let mut rest = head;
     while let [first, more @ ..] = rest {

@@ -1,10 +1,11 @@
-//! Octets and texts: tokens, values, paths and authorities. Tests of all octets of a text don't stop early, so that many
-//! octets are tested at once.
+//! Octets and texts: tokens, values, paths and authorities. Tests of all octets of a text don't
+//! stop early, so that many octets are tested at once.
 
 ghost use Rattle.std.specs.Prelude.{◌≡◌, ◌≤◌, true, length, bytes_eq};
 ghost use Rattle.std.specs.Str.Parse.{digits_value};
 ghost use Rattle.std.specs.List.{list_all};
-ghost use Rattle.model.specs.Octets.{begins_with, some_of, is_digit, is_token_octet, is_visible, is_space, is_value_octet, is_value, begins_with_space, ends_with_space, lower};
+ghost use Rattle.model.specs.Octets.{begins_with, some_of, is_digit, is_token_octet, is_visible, is_space};
+ghost use Rattle.model.specs.Octets.{is_value_octet, is_value, begins_with_space, ends_with_space, lower};
 ghost use Rattle.model.specs.Http2.{is_name_octet, is_authority_octet, is_path_for};
 
 /// Whether a token may hold the octet (RFC 9110, section 5.6.2).

@@ -13,13 +13,14 @@ use std::marker::Model;
 /// The greatest size that a window may have (RFC 9113, section 6.9.1).
 const GREATEST: i64 = GREATEST_WINDOW as i64;
 
-/// A window would pass 2,147,483,647, which is an error of its stream or of the connection (RFC 9113, section 6.9.1), or fall
-/// below -2,147,483,647, which no frame of a peer brings about.
+/// A window would pass 2,147,483,647, which is an error of its stream or of the connection (RFC
+/// 9113, section 6.9.1), or fall below -2,147,483,647, which no frame of a peer brings about.
 #[derive(Clone, Copy, Debug, PartialEq, Eq)]
 pub struct Overflow;
 
-/// A window of flow control, seen as a number: how many octets of DATA may still be sent, or may still come. It is below
-/// zero where its first size was lowered under what was already sent (RFC 9113, section 6.9.2).
+/// A window of flow control, seen as a number: how many octets of DATA may still be sent, or may
+/// still come. It is below zero where its first size was lowered under what was already sent (RFC
+/// 9113, section 6.9.2).
 #[derive(Debug, Drop)]
 pub struct Window {
     size: i64,
@@ -47,8 +48,8 @@ impl Window {
         }
     }
 
-    /// Takes the octets of a DATA frame from the window, of which there are at most as many as it has (RFC 9113, section
-    /// 6.9.1).
+    /// Takes the octets of a DATA frame from the window, of which there are at most as many as it
+    /// has (RFC 9113, section 6.9.1).
     pub fn take(&mut self, octets: u32)
         requires { pos octets ≤ℤ self.old }
         ensures { self.new ≡ self.old -ℤ pos octets }
@@ -56,8 +57,9 @@ impl Window {
         self.size -= i64::from(octets);
     }
 
-    /// Takes the octets of a DATA frame that went out from a window that is kept without its first size, so that it may fall below zero (RFC 9113,
-    /// sections 6.9.1 and 6.9.2), yet to -2,147,483,647 at the lowest.
+    /// Takes the octets of a DATA frame that went out from a window that is kept without its first
+    /// size, so that it may fall below zero (RFC 9113, sections 6.9.1 and 6.9.2), yet to
+    /// -2,147,483,647 at the lowest.
     pub fn spend(&mut self, octets: u32)
         requires { IsAboveLeast (self.old -ℤ pos octets) }
         ensures { self.new ≡ self.old -ℤ pos octets }
@@ -66,8 +68,8 @@ impl Window {
         self.size -= count;
     }
 
-    /// Adds the increment of a WINDOW_UPDATE, in octets (RFC 9113, section 6.9.1). `Overflow` comes just where the window
-    /// would pass 2,147,483,647, and leaves it as it was.
+    /// Adds the increment of a WINDOW_UPDATE, in octets (RFC 9113, section 6.9.1). `Overflow` comes
+    /// just where the window would pass 2,147,483,647, and leaves it as it was.
     pub fn grant(&mut self, increment: u32) -> Result<(), Overflow>
         ensures ok { OnOk result (self.new ≡ self.old +ℤ pos increment) }
         ensures in_range { OnOk result (IsSize self.new) }
@@ -78,8 +80,9 @@ impl Window {
         Ok(())
     }
 
-    /// Adds the difference that a changed setting makes, in octets, perhaps one below zero (RFC 9113, section 6.9.2).
-    /// `Overflow` comes just where the window would pass 2,147,483,647 or fall below -2,147,483,647, and leaves it as it was.
+    /// Adds the difference that a changed setting makes, in octets, perhaps one below zero (RFC
+    /// 9113, section 6.9.2). `Overflow` comes just where the window would pass 2,147,483,647 or
+    /// fall below -2,147,483,647, and leaves it as it was.
     pub fn shift(&mut self, difference: i64) -> Result<(), Overflow>
         ensures ok { OnOk result (self.new ≡ self.old +ℤ difference) }
         ensures in_range { OnOk result (IsSize self.new) }

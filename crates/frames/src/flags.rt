@@ -20,31 +20,32 @@ pub(crate) fn has_flag(view: View<'_>, flag: u8) -> bool
     view.flags / flag % 2 == 1
 }
 
-/// Whether the frame is an acknowledgement: SETTINGS or PING with the flag ACK (RFC 9113, sections 6.5 and 6.7). The flags
-/// of any other type aren't looked at.
+/// Whether the frame is an acknowledgement: SETTINGS or PING with the flag ACK (RFC 9113, sections
+/// 6.5 and 6.7). The flags of any other type aren't looked at.
 pub fn is_ack(view: View<'_>) -> bool
     ensures { result ≡ is_ack (frame_of view.entry) }
 {
     (view.kind == SETTINGS || view.kind == PING) && has_flag(view, ACK)
 }
 
-/// Whether the frame ends its stream: DATA or HEADERS with the flag END_STREAM (RFC 9113, sections 6.1 and 6.2). The flags
-/// of any other type aren't looked at.
+/// Whether the frame ends its stream: DATA or HEADERS with the flag END_STREAM (RFC 9113, sections
+/// 6.1 and 6.2). The flags of any other type aren't looked at.
 pub fn ends_stream(view: View<'_>) -> bool
     ensures { result ≡ ends_stream (frame_of view.entry) }
 {
     (view.kind == DATA || view.kind == HEADERS) && has_flag(view, END_STREAM)
 }
 
-/// Whether the frame ends its header block: HEADERS or CONTINUATION with the flag END_HEADERS (RFC 9113, sections 6.2 and
-/// 6.10). The flags of any other type aren't looked at.
+/// Whether the frame ends its header block: HEADERS or CONTINUATION with the flag END_HEADERS (RFC
+/// 9113, sections 6.2 and 6.10). The flags of any other type aren't looked at.
 pub fn ends_headers(view: View<'_>) -> bool
     ensures { result ≡ ends_headers (frame_of view.entry) }
 {
     (view.kind == HEADERS || view.kind == CONTINUATION) && has_flag(view, END_HEADERS)
 }
 
-/// Whether the frame has settings: SETTINGS that is no acknowledgement (RFC 9113, section 6.5), perhaps without entries.
+/// Whether the frame has settings: SETTINGS that is no acknowledgement (RFC 9113, section 6.5),
+/// perhaps without entries.
 pub fn has_settings(view: View<'_>) -> bool
     ensures { result ≡ has_settings (frame_of view.entry) }
 {

@@ -1,5 +1,5 @@
-//! Frames of HTTP/2 (RFC 9113, sections 4.1 and 6): one is split from the front of some octets, what its payload says is
-//! told, and one is written behind others.
+//! Frames of HTTP/2 (RFC 9113, sections 4.1 and 6): one is split from the front of some octets,
+//! what its payload says is told, and one is written behind others.
 #![tactic(auto)]
 
 ghost use Rattle.std.specs.Prelude.{◌≡◌, ℕ, ◌+◌, ◌<◌, ◌≤◌, List, ◌++◌, length, vec_len, vec_capacity, OnOk, OnErr};
@@ -21,9 +21,10 @@ pub use views::{Split, View};
 
 /// Splits off the frame with which `octets` begin, and says how many octets it takes.
 ///
-/// Nothing is copied: the payload is the slice of `octets` behind the nine of the header (RFC 9113, section 4.1). The
-/// reserved bit of the stream's number is ignored. A length of over 16,384 octets is refused as soon as the whole header
-/// is there; anything else that is less than a frame waits for more.
+/// Nothing is copied: the payload is the slice of `octets` behind the nine of the header (RFC 9113,
+/// section 4.1). The reserved bit of the stream's number is ignored. A length of over 16,384 octets
+/// is refused as soon as the whole header is there; anything else that is less than a frame waits
+/// for more.
 pub fn split(octets: &[u8]) -> Split<'_>
     ensures { IsSplit octets.now result }
 {

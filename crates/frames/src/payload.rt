@@ -16,12 +16,13 @@ use protocol::frame_types::{
 };
 use protocol::lengths;
 
-/// What the frame's payload says, by its type and flags (RFC 9113, section 6), without padding, priority octets and
-/// reserved bits. Octets are slices of the payload. Flags that the type doesn't define are ignored, and what padding
-/// consists of isn't looked at. Each type of which the parts are used has its own variant, and all others have `Other`.
+/// What the frame's payload says, by its type and flags (RFC 9113, section 6), without padding,
+/// priority octets and reserved bits. Octets are slices of the payload. Flags that the type doesn't
+/// define are ignored, and what padding consists of isn't looked at. Each type of which the parts
+/// are used has its own variant, and all others have `Other`.
 ///
-/// `Size` comes just where the payload's length isn't one that the type and flags allow; else `Protocol` comes just where
-/// its padding is longer than what is left for it.
+/// `Size` comes just where the payload's length isn't one that the type and flags allow; else
+/// `Protocol` comes just where its padding is longer than what is left for it.
 pub fn parse(view: View<'_>) -> Result<Frame<'_>, FrameFault>
     ensures ok { IfOk result (λ frame. parts_in frame ≡ parts_of (frame_of view.entry)) }
     ensures says { IfOk result (λ frame. Says frame (frame_of view.entry)) }

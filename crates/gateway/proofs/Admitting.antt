@@ -10,36 +10,36 @@ use Rattle.model.specs.Tapes.{Entry, is_closed}
 use Rattle.model.specs.Known.{Known}
 use Rattle.model.specs.Rooms.{IsAdmitted}
 use Rattle.model.specs.Admission as admission
-use Rattle.conduct.specs.Rule.{AreKnown, known_of}
-use Rattle.conduct.proofs.Knowing.{known_so}
-use Rattle.offering.specs.Outbox.{Outbox}
-use Rattle.offering.specs.Outbox.Outbox.{Before, Behind, Over}
-use Rattle.offering.specs.Held.{body_waiting}
-use Rattle.receiving.specs.Held.{body_in}
-use Rattle.receiving.specs.Rooms.{IsHeld, AreHeld}
-use Rattle.serving.specs.State as serving
-use Rattle.serving.specs.Lines as lines
-use Rattle.serving.specs.Lines.{find, line_of, is_idle}
-use Rattle.serving.specs.Lines.Answer.{Pending as Partly, Idle, Done}
-use Rattle.serving.specs.Rule.{is_done_by, is_done}
-use Rattle.serving.specs.Meaning.{AreSo}
-use Rattle.serving.proofs.Clauses.{all_stand, none_done}
-use Rattle.serving.proofs.Connections.{connections_told}
-use Rattle.answers.specs.Waiting.{passing_in}
-use Rattle.upstreams.specs.Connections.{Connection, number_of, lives}
-use Rattle.offers.specs.Asked.{held_if}
-use Rattle.policy.specs.Moves.{Move}
-use Rattle.policy.specs.State.{State, tape_of, conducts, turns_of}
-use Rattle.policy.proofs.Tapes.{requests_tape}
-use Rattle.policy.proofs.Placing.{turns_may, turns_so}
-use Rattle.relay.specs.View.{View, Pending, Leads}
-use Rattle.relay.specs.Rest.{told_view}
-use Rattle.relay.proofs.Lives.{lives_found}
-use Rattle.holding.proofs.Rooms.{HoldsFor, none_held, passed_on, holds_for}
-use Rattle.steps.specs.Admission.{is_up, takes_room, held_of, held_on, room_on, admits as admits_kept}
-use Rattle.steps.specs.Comings.{IsOver}
-use Rattle.steps.specs.Resting.{IsSettled}
-use Rattle.steps.proofs.Admitting.{admitted_by_kept, admitted_by_tape, up_by_tape, room_by_tape}
+use Rattle.theory_errors.specs.Rule.{AreKnown, known_of}
+use Rattle.theory_errors.proofs.Knowing.{known_so}
+use Rattle.theory_responses.specs.Outbox.{Outbox}
+use Rattle.theory_responses.specs.Outbox.Outbox.{Before, Behind, Over}
+use Rattle.theory_responses.specs.Held.{body_waiting}
+use Rattle.theory_receive_windows.specs.Held.{body_in}
+use Rattle.theory_receive_windows.specs.Rooms.{IsHeld, AreHeld}
+use Rattle.theory_requests.specs.State as theory_requests
+use Rattle.theory_requests.specs.Lines as lines
+use Rattle.theory_requests.specs.Lines.{find, line_of, is_idle}
+use Rattle.theory_requests.specs.Lines.Answer.{Pending as Partly, Idle, Done}
+use Rattle.theory_requests.specs.Rule.{is_done_by, is_done}
+use Rattle.theory_requests.specs.Meaning.{AreSo}
+use Rattle.theory_requests.proofs.Clauses.{all_stand, none_done}
+use Rattle.theory_requests.proofs.Connections.{connections_told}
+use Rattle.upstream_response.specs.Waiting.{passing_in}
+use Rattle.upstream_connections.specs.Connections.{Connection, number_of, lives}
+use Rattle.send_queue.specs.Asked.{held_if}
+use Rattle.theory.specs.Moves.{Move}
+use Rattle.theory.specs.State.{State, tape_of, conducts, turns_of}
+use Rattle.theory.proofs.Tapes.{requests_tape}
+use Rattle.theory.proofs.Placing.{turns_may, turns_so}
+use Rattle.refinement.specs.View.{View, Pending, Leads}
+use Rattle.refinement.specs.Rest.{told_view}
+use Rattle.refinement.proofs.Lives.{lives_found}
+use Rattle.theory_memory_bound.proofs.Rooms.{HoldsFor, none_held, passed_on, holds_for}
+use Rattle.event_handlers.specs.Admission.{is_up, takes_room, held_of, held_on, room_on, admits as admits_kept}
+use Rattle.event_handlers.specs.Comings.{IsOver}
+use Rattle.event_handlers.specs.Resting.{IsSettled}
+use Rattle.event_handlers.proofs.Admitting.{admitted_by_kept, admitted_by_tape, up_by_tape, room_by_tape}
 use Rattle.gateway.specs.declared.phase.Phase.{Phase}
 use Rattle.gateway.specs.declared.phase.Phase.TheVariants as phase
 use Rattle.gateway.specs.Rooms.{TellsRoom}
@@ -123,7 +123,7 @@ module _ (setup : Setup) (run : List Move) (kept : View) (pending : Pending) (s 
     shut = λ shut. by (find number_of k kept.upstreams.live) (up_by_tape setup run kept pending s leads k ∙ shut);
   }
     where
-      by : (found : Option Connection) → is_some found ≡ false → Rattle.steps.specs.Admission.room_of kept.offers found ≡ 0
+      by : (found : Option Connection) → is_some found ≡ false → Rattle.event_handlers.specs.Admission.room_of kept.offers found ≡ 0
       by None none = refl
       by (Some c) none = absurd (let no : true ≡ false = none in cc)
 
@@ -143,10 +143,10 @@ module _ (setup : Setup) (partial text : List ℕ) (kept : View) (run : List Mov
       so : AreSo known (turns_of setup run)
       so = turns_so known run knows over.allowed (over.so known refl knows)
 
-      told : is_some (line_of k (serving.state_of setup (turns_of setup run)).live) ≡ admission.is_open k (serving.tape_of (turns_of setup run))
+      told : is_some (line_of k (theory_requests.state_of setup (turns_of setup run)).live) ≡ admission.is_open k (theory_requests.tape_of (turns_of setup run))
       told = connections_told known (turns_of setup run) (turns_may setup run over.allowed) so k
 
-      none : (serving.state_of setup (turns_of setup run)).live ≡ []
+      none : (theory_requests.state_of setup (turns_of setup run)).live ≡ []
       none = (all_stand known (turns_of setup run) (turns_may setup run over.allowed) so).shut (ap is_closed (requests_tape setup run) ∙ over.closed)
 
   up_in : (p : Phase) → is_open p ≡ false → IsIn p setup partial kept text run → (k : ℕ) → false ≡ admission.is_open k (tape_of run)

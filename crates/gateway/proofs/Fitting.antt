@@ -16,9 +16,9 @@ use Rattle.model.specs.Responses.{Seen}
 use Rattle.model.specs.Rooms.{IsRoom, FitsRoom}
 use Rattle.model.specs.WindowsOnTape.{is_on, data_octets}
 use Rattle.model.proofs.ItemLaws.{items_stay}
-use Rattle.offering.specs.Held.{FitRooms}
-use Rattle.steps.specs.Inputs.{inputs_in, events_in}
-use Rattle.steps.specs.Inputs.Input.{OfFrame, OfBreach, OfEvent}
+use Rattle.theory_responses.specs.Held.{FitRooms}
+use Rattle.event_handlers.specs.Inputs.{inputs_in, events_in}
+use Rattle.event_handlers.specs.Inputs.Input.{OfFrame, OfBreach, OfEvent}
 
 -- ---- frames that are sent leave no less room
 

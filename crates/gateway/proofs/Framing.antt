@@ -6,11 +6,11 @@ use Rattle.model.specs.Logs.{Output}
 use Rattle.model.specs.Setup.{Setup}
 use Rattle.model.specs.Tapes as model
 use Rattle.frames.specs.Views.{IsUnfinished}
-use Rattle.relay.specs.View.{View, square}
-use Rattle.steps.specs.Inputs.{Input}
-use Rattle.steps.specs.Inputs.Input.{OfFrame, OfBreach}
-use Rattle.steps.specs.Comings.{ComesFrom}
-use Rattle.steps.proofs.Following.{comes_both, comes_none}
+use Rattle.refinement.specs.View.{View, balanced}
+use Rattle.event_handlers.specs.Inputs.{Input}
+use Rattle.event_handlers.specs.Inputs.Input.{OfFrame, OfBreach}
+use Rattle.event_handlers.specs.Comings.{ComesFrom}
+use Rattle.event_handlers.proofs.Following.{comes_both, comes_none}
 use Rattle.gateway.specs.Reading.{Taking, Takes}
 
 pub reading_more : (text : List ℕ) (fs : List Frame) (rest octets more : List ℕ) (f : Frame) → Reading text fs rest → Spells octets f → rest ≡ octets ++ more → Reading text (fs ++ f ∷ []) more
@@ -29,14 +29,14 @@ cut text used n = sym (take-append-drop n (drop used text)) ∙ ap (λ r. take n
 
 module _ (serves : Setup → Type 0) (a : View) (o : List Output) (text : List ℕ) where
   pub taking_none : Taking serves a o text text (Some a) o
-  taking_none = record { frames = []; reading = refl; comes = λ setup s. comes_none setup a square o }
+  taking_none = record { frames = []; reading = refl; comes = λ setup s. comes_none setup a balanced o }
 
   pub taking_more : (b : View) (p q : List Output) (rest octets more : List ℕ) (f : Frame) (now : Option View) → Taking serves a o text rest (Some b) p → Spells octets f → rest ≡ octets ++ more
-      → ((setup : Setup) → serves setup → ComesFrom setup b square p (OfFrame f ∷ []) square now q) → Taking serves a o text more now q
+      → ((setup : Setup) → serves setup → ComesFrom setup b balanced p (OfFrame f ∷ []) balanced now q) → Taking serves a o text more now q
   taking_more b p q rest octets more f now t spells is step = record {
     frames = t.frames ++ f ∷ [];
     reading = reading_more text t.frames rest octets more f t.reading spells is;
-    comes = λ setup s. subst (λ (is : List Input). ComesFrom setup a square o is square now q) (sym (frames_more t.frames f)) (comes_both setup a b square square square o p q (reverse (map OfFrame t.frames)) (OfFrame f ∷ []) now refl (t.comes setup s) (step setup s));
+    comes = λ setup s. subst (λ (is : List Input). ComesFrom setup a balanced o is balanced now q) (sym (frames_more t.frames f)) (comes_both setup a b balanced balanced balanced o p q (reverse (map OfFrame t.frames)) (OfFrame f ∷ []) now refl (t.comes setup s) (step setup s));
   }
 
   pub takes_all : (b : View) (p : List Output) (rest : List ℕ) → Taking serves a o text rest (Some b) p → IsUnfinished rest → Takes serves a o text rest (Some b) p
@@ -45,12 +45,12 @@ module _ (serves : Setup → Type 0) (a : View) (o : List Output) (text : List �
   pub takes_over : (p : List Output) (rest : List ℕ) → Taking serves a o text rest None p → Takes serves a o text rest None p
   takes_over p rest t = record { frames = t.frames; reading = t.reading; last = []; broken = inl refl; comes = t.comes; leaves = tt }
 
-  pub takes_breach : (b : View) (p q : List Output) (rest : List ℕ) → Taking serves a o text rest (Some b) p → IsTooLong rest → ((setup : Setup) → ComesFrom setup b square p (OfBreach model.Breach.TooLong ∷ []) square None q) → Takes serves a o text rest None q
+  pub takes_breach : (b : View) (p q : List Output) (rest : List ℕ) → Taking serves a o text rest (Some b) p → IsTooLong rest → ((setup : Setup) → ComesFrom setup b balanced p (OfBreach model.Breach.TooLong ∷ []) balanced None q) → Takes serves a o text rest None q
   takes_breach b p q rest t long ends = record {
     frames = t.frames;
     reading = t.reading;
     last = OfBreach model.Breach.TooLong ∷ [];
     broken = inr (refl, long);
-    comes = λ setup s. comes_both setup a b square square square o p q (reverse (map OfFrame t.frames)) (OfBreach model.Breach.TooLong ∷ []) None refl (t.comes setup s) (ends setup);
+    comes = λ setup s. comes_both setup a b balanced balanced balanced o p q (reverse (map OfFrame t.frames)) (OfBreach model.Breach.TooLong ∷ []) None refl (t.comes setup s) (ends setup);
     leaves = tt;
   }

@@ -9,17 +9,17 @@ use Rattle.model.specs.Setup.{Setup}
 use Rattle.model.specs.Tapes.{Entry, listed, breaches, is_closed, IsRead, IsNoPreface}
 use Rattle.model.specs.Tapes as model
 use Rattle.frames.specs.Views.{IsUnfinished}
-use Rattle.policy.specs.Moves.{Move}
-use Rattle.policy.specs.State.{State, tape_of}
-use Rattle.relay.specs.View.{View, Pending, square, Leads}
-use Rattle.relay.proofs.Performing.{tape_behind}
-use Rattle.steps.specs.Inputs.{Input, events_in}
-use Rattle.steps.specs.Inputs.Input.{OfFrame, OfBreach, OfEvent}
-use Rattle.steps.specs.Comings.{Comes, ComesFrom}
-use Rattle.steps.specs.Resting.{IsSettled, IsPassedBy}
-use Rattle.steps.specs.declared.resting.Went.{Went}
-use Rattle.steps.specs.declared.resting.Went.TheVariants as answer
-use Rattle.steps.proofs.Following.{greets_then, comes_none}
+use Rattle.theory.specs.Moves.{Move}
+use Rattle.theory.specs.State.{State, tape_of}
+use Rattle.refinement.specs.View.{View, Pending, balanced, Leads}
+use Rattle.refinement.proofs.Performing.{tape_behind}
+use Rattle.event_handlers.specs.Inputs.{Input, events_in}
+use Rattle.event_handlers.specs.Inputs.Input.{OfFrame, OfBreach, OfEvent}
+use Rattle.event_handlers.specs.Comings.{Comes, ComesFrom}
+use Rattle.event_handlers.specs.Resting.{IsSettled, IsPassedBy}
+use Rattle.event_handlers.specs.declared.resting.Onward.{Onward}
+use Rattle.event_handlers.specs.declared.resting.Onward.TheVariants as answer
+use Rattle.event_handlers.proofs.Following.{greets_then, comes_none}
 use Rattle.gateway.specs.declared.phase.Phase.{Phase}
 use Rattle.gateway.specs.declared.phase.Phase.TheVariants as phase
 use Rattle.gateway.specs.Reading.{Takes}
@@ -44,7 +44,7 @@ open_in phase.Closed setup partial kept text run e o = absurd (let no : false �
 open_in phase.Dead setup partial kept text run e o = absurd o
 
 -- once the gateway's settings are sent, nothing is owed
-nothing_owed : (p : Phase) → pending_in (greeted p) ≡ square
+nothing_owed : (p : Phase) → pending_in (greeted p) ≡ balanced
 nothing_owed phase.New = refl
 nothing_owed phase.Preface = refl
 nothing_owed phase.Frames = refl
@@ -52,7 +52,7 @@ nothing_owed phase.Closed = refl
 nothing_owed phase.Dead = refl
 
 -- where nothing is owed, something came
-not_fresh : (p : Phase) (kept : View) → pending_in p ≡ square → IsFresh p kept
+not_fresh : (p : Phase) (kept : View) → pending_in p ≡ balanced → IsFresh p kept
 not_fresh phase.New kept paid = absurd (let both : settings_frame ∷ [] ≡ [] = ap (λ (p : Pending). p.owed) paid in cc)
 not_fresh phase.Preface kept paid = tt
 not_fresh phase.Frames kept paid = tt
@@ -82,7 +82,7 @@ into_unbegun phase.Closed e partial text t u = u
 into_unbegun phase.Dead e partial text t u = u
 
 -- what is kept where a step ends
-abbrev pub ended : Went → Standing → Standing
+abbrev pub ended : Onward → Standing → Standing
 ended answer.On g = g
 ended answer.Over g = record g { phase = phase.Closed }
 
@@ -93,7 +93,7 @@ step_of event q = record { event = event; outputs = reverse q }
 
 module _ (setup : Setup) (old : Standing) (log : List Step) (run : List Move) (stands : Stands setup old log run) (event : Event) (admitted : MayCome setup run event) (inputs : List Input) (q : List Output) (events : events_in inputs ≡ listed event) (alone : (inputs ≡ OfEvent event ∷ []) ⊎ (events_in inputs ≡ [])) where
   -- the connection goes on
-  pub goes_to : (new : Standing) → Serves setup new → is_open new.phase ≡ true → pending_in new.phase ≡ square → IsSettled new.kept → (c : Comes setup run [] inputs square (Some new.kept) q)
+  pub goes_to : (new : Standing) → Serves setup new → is_open new.phase ≡ true → pending_in new.phase ≡ balanced → IsSettled new.kept → (c : Comes setup run [] inputs balanced (Some new.kept) q)
       → IsRead (client_in (step_of event q ∷ log)) (tape_of (c.moves ++ run)) → IsReadIn new.phase new.partial (client_in (step_of event q ∷ log)) (tape_of (c.moves ++ run)) → breaches (tape_of (c.moves ++ run)) ≡ [] → StandsNext setup new log run event (reverse q)
   goes_to new serves goes paid settled c read octets unbroken = record {
     segment = c.moves;
@@ -117,7 +117,7 @@ module _ (setup : Setup) (old : Standing) (log : List Step) (run : List Move) (s
       into phase.Dead e o = absurd (let no : false ≡ true = e in cc)
 
   -- the connection was closed
-  pub ends_at : (new : Standing) → Serves setup new → (c : Comes setup run [] inputs square None q) → IsRead (client_in (step_of event q ∷ log)) (tape_of (c.moves ++ run)) → StandsNext setup (record new { phase = phase.Closed }) log run event (reverse q)
+  pub ends_at : (new : Standing) → Serves setup new → (c : Comes setup run [] inputs balanced None q) → IsRead (client_in (step_of event q ∷ log)) (tape_of (c.moves ++ run)) → StandsNext setup (record new { phase = phase.Closed }) log run event (reverse q)
   ends_at new serves c read = record {
     segment = c.moves;
     step_is = step_by setup log run stands.answered event inputs None q events c;
@@ -168,15 +168,15 @@ module _ (setup : Setup) (old mid : Standing) (p : List Output) (log : List Step
   mid_open : is_open mid.phase ≡ true
   mid_open = ap is_open phase_is ∙ stays_open old.phase is_open_yet
 
-  mid_paid : pending_in mid.phase ≡ square
+  mid_paid : pending_in mid.phase ≡ balanced
   mid_paid = ap pending_in phase_is ∙ nothing_owed old.phase
 
   -- behind the settings moves led to what is kept
-  pub mid_leads : (moves : List Move) × (s : State) × Leads setup moves mid.kept square s
+  pub mid_leads : (moves : List Move) × (s : State) × Leads setup moves mid.kept balanced s
   mid_leads = let one = greets.performs setup run o.state o.leads in (one.segment.moves ++ run, one.segment.state, one.segment.leads)
 
-  from_greeting : (inputs : List Input) (now : Option View) (q : List Output) → ComesFrom setup mid.kept square p inputs square now q → Comes setup run [] inputs square now q
-  from_greeting inputs now q later = greets_then setup old.kept mid.kept (pending_in old.phase) square square p q inputs now (greets.performs setup) greets.only later run o.state o.leads
+  from_greeting : (inputs : List Input) (now : Option View) (q : List Output) → ComesFrom setup mid.kept balanced p inputs balanced now q → Comes setup run [] inputs balanced now q
+  from_greeting inputs now q later = greets_then setup old.kept mid.kept (pending_in old.phase) balanced balanced p q inputs now (greets.performs setup) greets.only later run o.state o.leads
 
   module _ (event : Event) (admitted : MayCome setup run event) (hap : Standing) (q : List Output) (terms : KeepsTerms mid hap) where
     serves_hap : Serves setup hap
@@ -194,7 +194,7 @@ module _ (setup : Setup) (old mid : Standing) (p : List Output) (log : List Step
       hap_partial : hap.partial ≡ old.partial
       hap_partial = ap (λ (g : Standing). g.partial) stays ∙ partial_is
 
-      module _ (now : Option View) (c : Comes setup run [] (OfEvent event ∷ []) square now q) where
+      module _ (now : Option View) (c : Comes setup run [] (OfEvent event ∷ []) balanced now q) where
         tape_is : tape_of (c.moves ++ run) ≡ tape_of c.moves ++ tape_of run
         tape_is = tape_behind c.moves run
 
@@ -225,15 +225,15 @@ module _ (setup : Setup) (old mid : Standing) (p : List Output) (log : List Step
         event_unbroken : breaches (tape_of (c.moves ++ run)) ≡ []
         event_unbroken = ap breaches tape_is ∙ unbroken_then (client_in log) (tape_of run) (tape_of c.moves) o.unbroken (ap frames_in c.came) (ap breaches_in c.came)
 
-      hears_goes : IsSettled hap.kept → Comes setup run [] (OfEvent event ∷ []) square (Some hap.kept) q → StandsNext setup hap log run event (reverse q)
+      hears_goes : IsSettled hap.kept → Comes setup run [] (OfEvent event ∷ []) balanced (Some hap.kept) q → StandsNext setup hap log run event (reverse q)
       hears_goes settled c =
           goes_to setup old log run stands event admitted (OfEvent event ∷ []) q (sym others) (inl refl) hap serves_hap (ap is_open hap_phase ∙ stays_open old.phase is_open_yet) (ap pending_in hap_phase ∙ nothing_owed old.phase) settled c
           (event_read (Some hap.kept) c) (event_kept (Some hap.kept) c) (event_unbroken (Some hap.kept) c)
 
-      hears_over : Comes setup run [] (OfEvent event ∷ []) square None q → StandsNext setup (record hap { phase = phase.Closed }) log run event (reverse q)
+      hears_over : Comes setup run [] (OfEvent event ∷ []) balanced None q → StandsNext setup (record hap { phase = phase.Closed }) log run event (reverse q)
       hears_over c = ends_at setup old log run stands event admitted (OfEvent event ∷ []) q (sym others) (inl refl) hap serves_hap c (event_read None c)
 
-    pub hears_next : (went : Went) → IsSettledIf went hap.kept → listed event ≡ event ∷ [] → Hears mid hap went p q event → StandsNext setup (ended went hap) log run event (reverse q)
+    pub hears_next : (went : Onward) → IsSettledIf went hap.kept → listed event ≡ event ∷ [] → Hears mid hap went p q event → StandsNext setup (ended went hap) log run event (reverse q)
     hears_next answer.On settled others h = hears_goes others h.stays settled (from_greeting (OfEvent event ∷ []) (Some hap.kept) q (h.comes setup serves_mid))
     hears_next answer.Over settled others h = hears_over others h.stays (from_greeting (OfEvent event ∷ []) None q (h.comes setup serves_mid))
 
@@ -252,15 +252,15 @@ module _ (setup : Setup) (old mid : Standing) (p : List Output) (log : List Step
   unbegun_yet : is_begun mid.phase ≡ false → IsUnbegun old.partial (client_in log) (tape_of run)
   unbegun_yet unbegun = unbegun_in old.phase old.partial (client_in log) (tape_of run) (ap is_begun (sym (phase_is setup old mid p log run stands greets is_open_yet)) ∙ unbegun) before.octets
 
-  comes_by : (inputs : List Input) (now : Option View) → ComesFrom setup mid.kept square p inputs square now q → Comes setup run [] inputs square now q
+  comes_by : (inputs : List Input) (now : Option View) → ComesFrom setup mid.kept balanced p inputs balanced now q → Comes setup run [] inputs balanced now q
   comes_by inputs now later = from_greeting setup old mid p log run stands greets is_open_yet inputs now q later
 
   -- they are a front of the preface
-  pub waits_next : (went : Went) → IsSettledIf went hap.kept → Waits mid hap went p q (mid.partial ++ piece) → StandsNext setup (ended went hap) log run (Client piece) (reverse q)
+  pub waits_next : (went : Onward) → IsSettledIf went hap.kept → Waits mid hap went p q (mid.partial ++ piece) → StandsNext setup (ended went hap) log run (Client piece) (reverse q)
   waits_next answer.Over settled w = absurd (let no : answer.Over ≡ answer.On = w.goes_on in cc)
   waits_next answer.On settled w =
       let kept_is : hap.kept ≡ mid.kept = ap (λ (g : Standing). g.kept) w.after in
-      let c : Comes setup run [] [] square (Some hap.kept) q = comes_by [] (Some hap.kept) (subst (λ k. ComesFrom setup mid.kept square p [] square (Some k) q) (sym kept_is) (subst (λ x. ComesFrom setup mid.kept square p [] square (Some mid.kept) x) (sym w.puts_nothing) (comes_none setup mid.kept square p))) in
+      let c : Comes setup run [] [] balanced (Some hap.kept) q = comes_by [] (Some hap.kept) (subst (λ k. ComesFrom setup mid.kept balanced p [] balanced (Some k) q) (sym kept_is) (subst (λ x. ComesFrom setup mid.kept balanced p [] balanced (Some mid.kept) x) (sym w.puts_nothing) (comes_none setup mid.kept balanced p))) in
       let tape : tape_of (c.moves ++ run) ≡ tape_of c.moves ++ tape_of run = tape_behind c.moves run in
       let u = unbegun_yet w.unbegun in
       let front = subst (λ x. IsStrictFront x preface) unread_is w.front in
@@ -274,10 +274,10 @@ module _ (setup : Setup) (old mid : Standing) (p : List Output) (log : List Step
       (ap breaches tape ∙ waits_unbroken old.partial (client_in log) piece (tape_of run) (tape_of c.moves) u before.unbroken front c.came)
 
   -- they depart from it
-  pub departs_next : (went : Went) → Departs mid hap went p q (mid.partial ++ piece) → StandsNext setup (ended went hap) log run (Client piece) (reverse q)
+  pub departs_next : (went : Onward) → Departs mid hap went p q (mid.partial ++ piece) → StandsNext setup (ended went hap) log run (Client piece) (reverse q)
   departs_next answer.On d = absurd (let no : answer.On ≡ answer.Over = d.is_over in cc)
   departs_next answer.Over d =
-      let c : Comes setup run [] (OfBreach model.Breach.WrongPreface ∷ []) square None q = comes_by (OfBreach model.Breach.WrongPreface ∷ []) None (d.comes setup) in
+      let c : Comes setup run [] (OfBreach model.Breach.WrongPreface ∷ []) balanced None q = comes_by (OfBreach model.Breach.WrongPreface ∷ []) None (d.comes setup) in
       ends_at setup old log run stands (Client piece) admitted (OfBreach model.Breach.WrongPreface ∷ []) q refl (inr refl) hap serves_behind c
       (subst (λ t. IsRead (client_in log ++ piece) t) (sym (tape_behind c.moves run)) (departs_read old.partial (client_in log) piece (tape_of run) (tape_of c.moves) (unbegun_yet d.unbegun) before.unbroken (subst IsNoPreface unread_is d.no_preface) c.came))
 
@@ -292,7 +292,7 @@ module _ (setup : Setup) (old mid : Standing) (p : List Output) (log : List Step
       | inr long ↦ ap (λ (l : List Input). events_in (l ++ reverse (map OfFrame takes.frames))) long.0 ∙ in_events takes.frames
     ]
 
-    frames_come : Comes setup run [] came_in square now q
+    frames_come : Comes setup run [] came_in balanced now q
     frames_come = comes_by came_in now (takes.comes setup (serves_mid setup old mid p log run stands greets is_open_yet))
 
     begins_by : (b : Bool) → is_begun (greeted old.phase) ≡ b → old.partial ++ piece ≡ (if b then behind else preface ++ behind)
@@ -309,7 +309,7 @@ module _ (setup : Setup) (old mid : Standing) (p : List Output) (log : List Step
     read_by : (is_closed (tape_of (frames_come.moves ++ run)) ≡ false → IsUnfinished rest) → IsRead (client_in log ++ piece) (tape_of (frames_come.moves ++ run))
     read_by leaves = subst (λ t. IsRead (client_in log ++ piece) t) (sym tape_on) (read_on.read (λ e. leaves (ap is_closed tape_on ∙ e)))
 
-  pub reads_next : (went : Went) → IsSettledIf went hap.kept → GoesOn mid hap went p q (mid.partial ++ piece) → StandsNext setup (ended went hap) log run (Client piece) (reverse q)
+  pub reads_next : (went : Onward) → IsSettledIf went hap.kept → GoesOn mid hap went p q (mid.partial ++ piece) → StandsNext setup (ended went hap) log run (Client piece) (reverse q)
   reads_next answer.On settled g =
       let r = g.reads in
       let t = r.takes in
@@ -332,7 +332,7 @@ module _ (setup : Setup) (old mid : Standing) (p : List Output) (log : List Step
 -- ---- all of it
 
 pub stands_next : (setup : Setup) (old mid : Standing) (p : List Output) (log : List Step) (run : List Move) → Stands setup old log run → Greets old mid p → is_open old.phase ≡ true
-    → (event : Event) → MayCome setup run event → (hap : Standing) (q : List Output) → KeepsTerms mid hap → (went : Went) → IsSettledIf went hap.kept → Happens mid hap went p q event
+    → (event : Event) → MayCome setup run event → (hap : Standing) (q : List Output) → KeepsTerms mid hap → (went : Onward) → IsSettledIf went hap.kept → Happens mid hap went p q event
     → StandsNext setup (ended went hap) log run event (reverse q)
 stands_next setup old mid p log run stands greets goes (Client piece) admitted hap q terms went settled h = elim h [
   | inl w ↦ waits_next setup old mid p log run stands greets goes piece admitted hap q terms went settled w

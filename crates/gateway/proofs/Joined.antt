@@ -6,15 +6,15 @@ use Rattle.model.specs.Logs.{Output}
 use Rattle.model.specs.Setup.{Setup}
 use Rattle.model.specs.Tapes as model
 use Rattle.frames.specs.Views.{IsUnfinished}
-use Rattle.relay.specs.View.{View, square}
-use Rattle.relay.specs.Rest.{Reached}
-use Rattle.steps.specs.Inputs.{Input, events_in}
-use Rattle.steps.specs.Inputs.Input.{OfFrame, OfBreach}
-use Rattle.steps.specs.Comings.{ComesFrom}
-use Rattle.steps.specs.Resting.{now_of, IsPassedBy}
-use Rattle.steps.specs.declared.resting.Went.{Went}
-use Rattle.steps.specs.declared.resting.Went.TheVariants.{On, Over}
-use Rattle.steps.proofs.Following.{comes_both}
+use Rattle.refinement.specs.View.{View, balanced}
+use Rattle.refinement.specs.Rest.{Reached}
+use Rattle.event_handlers.specs.Inputs.{Input, events_in}
+use Rattle.event_handlers.specs.Inputs.Input.{OfFrame, OfBreach}
+use Rattle.event_handlers.specs.Comings.{ComesFrom}
+use Rattle.event_handlers.specs.Resting.{now_of, IsPassedBy}
+use Rattle.event_handlers.specs.declared.resting.Onward.{Onward}
+use Rattle.event_handlers.specs.declared.resting.Onward.TheVariants.{On, Over}
+use Rattle.event_handlers.proofs.Following.{comes_both}
 use Rattle.gateway.specs.Reading.{Takes}
 use Rattle.gateway.specs.Stands.{Standing, Serves}
 use Rattle.gateway.specs.Receiving.{Receives, GoesOn, Keeps, KeepsTerms, is_begun}
@@ -57,11 +57,11 @@ module _ (serves : Setup → Type 0) (a b : View) (o p q : List Output) (text mi
         last = two.last;
         broken = two.broken;
         comes = λ setup s.
-            subst (λ (is : List Input). ComesFrom setup a square o is square now q)
+            subst (λ (is : List Input). ComesFrom setup a balanced o is balanced now q)
             (append_assoc two.last (reverse (map OfFrame two.frames)) (reverse (map OfFrame one.frames)) ∙ ap (λ (is : List Input). two.last ++ is) (sym (frames_both one.frames two.frames)))
-            (comes_both setup a b square square square o p q (reverse (map OfFrame one.frames)) inputs now
+            (comes_both setup a b balanced balanced balanced o p q (reverse (map OfFrame one.frames)) inputs now
             (events_both two.last (reverse (map OfFrame two.frames)) (events_at_last two.last model.Breach.TooLong (IsTooLong rest) two.broken) (in_events two.frames))
-            (subst (λ (last : List Input). ComesFrom setup a square o (last ++ reverse (map OfFrame one.frames)) square (Some b) p) none (one.comes setup s))
+            (subst (λ (last : List Input). ComesFrom setup a balanced o (last ++ reverse (map OfFrame one.frames)) balanced (Some b) p) none (one.comes setup s))
             (two.comes setup s));
         leaves = two.leaves;
       }
@@ -109,8 +109,8 @@ behind_of : (begun : Bool) (text behind : List ℕ) → begun ≡ true → text 
 behind_of true text behind is begins = sym begins
 behind_of false text behind is begins = absurd (let clash = is in cc)
 
-module _ (old mid new : Standing) (o p q : List Output) (went : Went) (terms : KeepsTerms old mid) (unread more : List ℕ) where
-  keeps_on : (w : Went) (left rest : List ℕ) → mid ≡ record old { phase = phase.Frames; partial = left; kept = mid.kept } → Keeps w mid new rest → Keeps w old new rest
+module _ (old mid new : Standing) (o p q : List Output) (went : Onward) (terms : KeepsTerms old mid) (unread more : List ℕ) where
+  keeps_on : (w : Onward) (left rest : List ℕ) → mid ≡ record old { phase = phase.Frames; partial = left; kept = mid.kept } → Keeps w mid new rest → Keeps w old new rest
   keeps_on On left rest stays keeps = keeps ∙ ap (λ (g : Standing). record g { phase = phase.Frames; partial = rest; kept = new.kept }) stays
   keeps_on Over left rest stays keeps = tt
 
@@ -138,7 +138,7 @@ module _ (old mid new : Standing) (o p q : List Output) (went : Went) (terms : K
 
   module _ (begun : is_begun old.phase ≡ true) where
     -- behind the preface frames are read
-    first_goes : (w : Went) → Receives old mid w o p unread → GoesOn old mid w o p unread
+    first_goes : (w : Onward) → Receives old mid w o p unread → GoesOn old mid w o p unread
     first_goes w first = elim first [
       | inl waits ↦ absurd (let clash : true ≡ false = sym begun ∙ waits.unbegun in cc)
       | inr (inl departs) ↦ absurd (let clash : true ≡ false = sym begun ∙ departs.unbegun in cc)
@@ -149,7 +149,7 @@ module _ (old mid new : Standing) (o p q : List Output) (went : Went) (terms : K
     receives_then first receives = goes_then (first_goes On first) receives
 
     -- the gateway may go on behind the first part
-    pub reached_then : Receives old mid On o p unread → (setup : Setup) → Serves setup old → Reached setup old.kept square → Reached setup mid.kept square
+    pub reached_then : Receives old mid On o p unread → (setup : Setup) → Serves setup old → Reached setup old.kept balanced → Reached setup mid.kept balanced
     reached_then first setup s reached = let c = (first_goes On first).reads.takes.comes setup s reached.0 reached.1 reached.2 in (c.moves ++ reached.0, c.stands.0, c.stands.1)
 
     -- where the connection is closed with the first part, the other isn't looked at

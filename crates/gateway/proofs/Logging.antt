@@ -8,16 +8,16 @@ use Rattle.model.specs.Tapes.{Entry, IsRead}
 use Rattle.model.specs.Known.{Known}
 use Rattle.model.specs.Synchrony.{InStep, IsReadyAtEach, turns_on}
 use Rattle.model.specs.Headline.{ClausesHold, HoldsInTurn, IsTold, HasTape}
-use Rattle.conduct.specs.Rule.{AreKnown, known_of}
-use Rattle.conduct.proofs.Knowing.{known_so}
-use Rattle.policy.specs.Moves.{Move, entry_of}
-use Rattle.policy.specs.Moves.Move.{Does, Settles}
-use Rattle.policy.specs.State.{State, conducts, tape_of, state_of}
-use Rattle.policy.specs.Rule.{AllAllowed, RestsBehind}
-use Rattle.policy.specs.Steps.{AreAnsweredBy}
-use Rattle.policy.proofs.Keeping.{IsKnown, clauses, in_step, in_turn, judged, ends_with_close}
+use Rattle.theory_errors.specs.Rule.{AreKnown, known_of}
+use Rattle.theory_errors.proofs.Knowing.{known_so}
+use Rattle.theory.specs.Moves.{Move, entry_of}
+use Rattle.theory.specs.Moves.Move.{Does, Settles}
+use Rattle.theory.specs.State.{State, conducts, tape_of, state_of}
+use Rattle.theory.specs.Rule.{AllAllowed, RestsBehind}
+use Rattle.theory.specs.Steps.{AreAnsweredBy}
+use Rattle.theory.proofs.Keeping.{IsKnown, clauses, in_step, in_turn, judged, ends_with_close}
 use Rattle.header_blocks.specs.Encoding.{Encoding}
-use Rattle.relay.specs.View.{View, Pending, AreSo, Leads}
+use Rattle.refinement.specs.View.{View, Pending, AreSo, Leads}
 use Rattle.gateway.specs.declared.phase.Phase.{Phase}
 use Rattle.gateway.specs.declared.phase.Phase.TheVariants as phase
 use Rattle.gateway.specs.Stands.{Standing, Stands, IsIn, is_open, pending_in}

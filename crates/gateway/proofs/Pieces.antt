@@ -6,16 +6,16 @@ use Rattle.model.specs.Setup.{Setup}
 use Rattle.model.specs.Tapes.{listed, put}
 use Rattle.model.specs.Logs.Output.{ToClient}
 use Rattle.model.specs.Frames.{Frame, spell, settings_frame}
-use Rattle.serving.specs.State.Due.{Nothing}
-use Rattle.relay.specs.View.{View, Pending, square}
-use Rattle.relay.proofs.Bringing.{own_none}
-use Rattle.relay.specs.Bringing.{PerformsOwn}
-use Rattle.steps.specs.Inputs.Input.{OfEvent}
-use Rattle.steps.specs.Comings.{ComesFrom, OnlyToClient}
-use Rattle.steps.specs.Resting.{IsSettled, IsPassedBy, IsServed, now_of}
-use Rattle.steps.specs.declared.taking.Service.{Service}
-use Rattle.steps.specs.declared.resting.Went.{Went}
-use Rattle.steps.specs.declared.resting.Went.TheVariants.{On, Over}
+use Rattle.theory_requests.specs.State.Due.{Nothing}
+use Rattle.refinement.specs.View.{View, Pending, balanced}
+use Rattle.refinement.proofs.Bringing.{own_none}
+use Rattle.refinement.specs.Bringing.{PerformsOwn}
+use Rattle.event_handlers.specs.Inputs.Input.{OfEvent}
+use Rattle.event_handlers.specs.Comings.{ComesFrom, OnlyToClient}
+use Rattle.event_handlers.specs.Resting.{IsSettled, IsPassedBy, IsServed, now_of}
+use Rattle.event_handlers.specs.declared.taking.ServiceTerms.{ServiceTerms}
+use Rattle.event_handlers.specs.declared.resting.Onward.{Onward}
+use Rattle.event_handlers.specs.declared.resting.Onward.TheVariants.{On, Over}
 use Rattle.gateway.specs.declared.reading.Read.{Read}
 use Rattle.gateway.specs.declared.reading.Read.TheVariants as read
 use Rattle.gateway.specs.Reading.{Takes, Reads}
@@ -35,7 +35,7 @@ greeted_before phase.Frames not_new = refl
 greeted_before phase.Closed not_new = refl
 greeted_before phase.Dead not_new = refl
 
-none_pending : (p : Phase) → (p ≡ phase.New → ⊥) → pending_in p ≡ square
+none_pending : (p : Phase) → (p ≡ phase.New → ⊥) → pending_in p ≡ balanced
 none_pending phase.New not_new = absurd (not_new refl)
 none_pending phase.Preface not_new = refl
 none_pending phase.Frames not_new = refl
@@ -44,7 +44,7 @@ none_pending phase.Dead not_new = refl
 
 pub greets_none : (g : Standing) → (g.phase ≡ phase.New → ⊥) → IsSettled g.kept → Greets g g []
 greets_none g not_new settled = record {
-  performs = λ setup. subst (λ pending. PerformsOwn setup g.kept pending [] g.kept square []) (sym (none_pending g.phase not_new)) (own_none setup g.kept square []);
+  performs = λ setup. subst (λ pending. PerformsOwn setup g.kept pending [] g.kept balanced []) (sym (none_pending g.phase not_new)) (own_none setup g.kept balanced []);
   only = tt;
   after = ap (λ p. record g { phase = p }) (sym (greeted_before g.phase not_new));
   more = omega arith;
@@ -57,8 +57,8 @@ pub greets_first : (g : Standing) (kept : View) (out p : List Output) → g.phas
     → p ≡ put out (ToClient (spell settings_frame)) → kept ≡ record g.kept { untaken = g.kept.untaken + length (spell settings_frame) } → Greets g (record g { phase = phase.Preface; kept = kept }) p
 greets_first g kept out p new settled nothing performs puts counts = record {
   performs = λ setup.
-      subst (λ x. PerformsOwn setup g.kept (pending_in x) [] kept square p) (sym new)
-      (subst (λ (os : List Output). PerformsOwn setup g.kept (record square { owed = settings_frame ∷ [] }) os kept square p) nothing (performs setup [] (record square { owed = settings_frame ∷ [] }) refl refl));
+      subst (λ x. PerformsOwn setup g.kept (pending_in x) [] kept balanced p) (sym new)
+      (subst (λ (os : List Output). PerformsOwn setup g.kept (record balanced { owed = settings_frame ∷ [] }) os kept balanced p) nothing (performs setup [] (record balanced { owed = settings_frame ∷ [] }) refl refl));
   only = subst OnlyToClient (sym (puts ∙ ap (λ (os : List Output). put os (ToClient (spell settings_frame))) nothing)) tt;
   after =
       ap (λ x. record g { phase = greeted x; kept = kept }) (sym new)
@@ -76,11 +76,11 @@ greets_first g kept out p new settled nothing performs puts counts = record {
 -- ---- other events
 
 -- An event that isn't of the client's octets comes to what is told of it: all but what is kept stays.
-pub hears_by : (old : Standing) (kept : View) (went : Went) (o p : List Output) (event told : Event) → told ≡ event → listed event ≡ event ∷ [] → ((setup : Setup) → Serves setup old → ComesFrom setup old.kept square o (OfEvent event ∷ []) square (now_of went kept) p)
+pub hears_by : (old : Standing) (kept : View) (went : Onward) (o p : List Output) (event told : Event) → told ≡ event → listed event ≡ event ∷ [] → ((setup : Setup) → Serves setup old → ComesFrom setup old.kept balanced o (OfEvent event ∷ []) balanced (now_of went kept) p)
     → Happens old (record old { kept = kept }) went o p told
 hears_by old kept went o p event told same others comes = subst (Happens old (record old { kept = kept }) went o p) (sym same) (by event others comes)
   where
-    by : (e : Event) → listed e ≡ e ∷ [] → ((setup : Setup) → Serves setup old → ComesFrom setup old.kept square o (OfEvent e ∷ []) square (now_of went kept) p) → Happens old (record old { kept = kept }) went o p e
+    by : (e : Event) → listed e ≡ e ∷ [] → ((setup : Setup) → Serves setup old → ComesFrom setup old.kept balanced o (OfEvent e ∷ []) balanced (now_of went kept) p) → Happens old (record old { kept = kept }) went o p e
     by (Client piece) others comes = absurd (let no : [] ≡ Client piece ∷ [] = others in cc)
     by ClientEnd others comes = record { comes = comes; stays = refl }
     by (ClientTook count) others comes = record { comes = comes; stays = refl }
@@ -99,7 +99,7 @@ takes_fewer serves fewer only old o text rest now o' t = record { frames = t.fra
 pub wait_behind : (before behind text : List ℕ) (used : ℕ) → before ≡ [] → behind ≡ before ++ take (length text - used) (drop used text) → behind ≡ drop used text
 wait_behind before behind text used none is = is ∙ ap (λ (x : List ℕ). x ++ take (length text - used) (drop used text)) none ∙ slice_rest text used
 
-module _ (old : Standing) (service : Service) (routes : old.routes ≡ service.terms.routes.now) (body : old.max_body ≡ service.terms.max_body) (passing : old.passing ≡ service.passing) (keep : old.keep ≡ service.keep) (o o' : List Output) (text : List ℕ) where
+module _ (old : Standing) (service : ServiceTerms) (routes : old.routes ≡ service.terms.routes.now) (body : old.max_body ≡ service.terms.max_body) (passing : old.passing ≡ service.passing) (keep : old.keep ≡ service.keep) (o o' : List Output) (text : List ℕ) where
   served : (setup : Setup) → Serves setup old → IsServed setup service
   served setup s = record { terms = record { routes = s.routes ∙ routes; max_body = s.max_body ∙ body }; passing = subst (IsPassedBy setup) passing s.passing; keep = sym keep ∙ s.keep }
 
@@ -132,18 +132,18 @@ not_begun phase.Dead not_frames = refl
 -- ---- octets that waited are read with those behind them
 
 module _ (old new : Standing) (waited : List ℕ) (o o' : List Output) where
-  keeps_waited : (went : Went) (rest : List ℕ) → Keeps went (record old { partial = waited }) new rest → Keeps went old new rest
+  keeps_waited : (went : Onward) (rest : List ℕ) → Keeps went (record old { partial = waited }) new rest → Keeps went old new rest
   keeps_waited On rest keeps = keeps
   keeps_waited Over rest keeps = tt
 
-  reads_waited : (went : Went) (behind : List ℕ) → ReadsOn (record old { partial = waited }) new went o o' behind → ReadsOn old new went o o' behind
+  reads_waited : (went : Onward) (behind : List ℕ) → ReadsOn (record old { partial = waited }) new went o o' behind → ReadsOn old new went o o' behind
   reads_waited went behind r = record {
     rest = r.rest;
     takes = takes_fewer (λ setup. Serves setup (record old { partial = waited })) (λ setup. Serves setup old) (λ setup s. record { servable = s.servable; routes = s.routes; max_body = s.max_body; passing = s.passing; keep = s.keep }) old.kept o behind r.rest (now_of went new.kept) o' r.takes;
     keeps = keeps_waited went r.rest r.keeps;
   }
 
-  pub receives_waited : (went : Went) (read unread : List ℕ) → read ≡ unread → Receives (record old { partial = waited }) new went o o' read → Receives old new went o o' unread
+  pub receives_waited : (went : Onward) (read unread : List ℕ) → read ≡ unread → Receives (record old { partial = waited }) new went o o' read → Receives old new went o o' unread
   receives_waited went read unread same receives = elim (subst (λ (octets : List ℕ). Receives (record old { partial = waited }) new went o o' octets) same receives) [
     | inl w ↦ inl (record { unbegun = w.unbegun; front = w.front; goes_on = w.goes_on; after = w.after; puts_nothing = w.puts_nothing })
     | inr (inl d) ↦ inr (inl (record { unbegun = d.unbegun; no_preface = d.no_preface; is_over = d.is_over; comes = d.comes }))

@@ -17,23 +17,23 @@ use Rattle.model.specs.Setup.{Setup}
 use Rattle.model.specs.Setup.Passing.{Whole}
 use Rattle.model.specs.Tapes.{Entry, put, outputs, happened, listed}
 use Rattle.model.specs.Tapes.Entry.{Came, Breached, Happened, Sent, Did}
-use Rattle.conduct.specs.Rule.{known_of}
-use Rattle.conduct.proofs.Knowing.{known_so}
-use Rattle.offering.specs.State as offering
-use Rattle.serving.specs.State as serving
-use Rattle.serving.specs.Lines.{find}
-use Rattle.serving.proofs.Lists.{found_key}
-use Rattle.upstreams.specs.Connections.{Connection, number_of, lives, AreBelow, AreRising}
-use Rattle.outputs.specs.Views.{output_of, outputs_of}
-use Rattle.outputs.specs.declared.events.Output.{Output as PutOut}
-use Rattle.policy.specs.Moves.{Move}
-use Rattle.policy.specs.State.{State, conducts, tape_of, turns_of}
-use Rattle.policy.proofs.EndingLives.{AreApart, all_apart}
-use Rattle.policy.proofs.Placing.{turns_may}
-use Rattle.holding.proofs.Lists.{all_found}
-use Rattle.relay.proofs.Performing.{tape_behind}
-use Rattle.steps.specs.Admission.{room_of}
-use Rattle.steps.proofs.Admitting.{up_by_tape}
+use Rattle.theory_errors.specs.Rule.{known_of}
+use Rattle.theory_errors.proofs.Knowing.{known_so}
+use Rattle.theory_responses.specs.State as theory_responses
+use Rattle.theory_requests.specs.State as theory_requests
+use Rattle.theory_requests.specs.Lines.{find}
+use Rattle.theory_requests.proofs.Lists.{found_key}
+use Rattle.upstream_connections.specs.Connections.{Connection, number_of, lives, AreBelow, AreRising}
+use Rattle.effects.specs.Views.{output_of, outputs_of}
+use Rattle.effects.specs.declared.events.Output.{Output as PutOut}
+use Rattle.theory.specs.Moves.{Move}
+use Rattle.theory.specs.State.{State, conducts, tape_of, turns_of}
+use Rattle.theory.proofs.EndingLives.{AreApart, all_apart}
+use Rattle.theory.proofs.Placing.{turns_may}
+use Rattle.theory_memory_bound.proofs.Lists.{all_found}
+use Rattle.refinement.proofs.Performing.{tape_behind}
+use Rattle.event_handlers.specs.Admission.{room_of}
+use Rattle.event_handlers.proofs.Admitting.{up_by_tape}
 use Rattle.gateway.specs.Rooms.{IsBelow, Rise, is_among, numbers_in, AreRooms, room_in, turns, fails}
 use Rattle.gateway.specs.Stands.{Standing, Stands, StandsNext, IsOpen, is_open, pending_in}
 use Rattle.gateway.proofs.Admitting.{closed_up, open_room}
@@ -111,7 +111,7 @@ all_turned P [] all = tt
 all_turned P (x ∷ xs) all =
     let parts = all_both P (reverse xs) (x ∷ []) (subst (AllByRecursion P) (reverse-append (x ∷ []) xs) all) in (parts.1.0, all_turned P xs parts.0)
 
-numbers_told : (offers : offering.State) (cs : List Connection) → numbers_in (map (room_in offers) cs) ≡ numbers cs
+numbers_told : (offers : theory_responses.State) (cs : List Connection) → numbers_in (map (room_in offers) cs) ≡ numbers cs
 numbers_told offers [] = refl
 numbers_told offers (c ∷ cs) = ap (λ (ks : List ℕ). c.live.k ∷ ks) (numbers_told offers cs)
 
@@ -136,7 +136,7 @@ module _ (setup : Setup) (g : Standing) (log : List Step) (run : List Move) (sta
 
   apart : AreApart (lives g.kept.upstreams.live)
   apart =
-      subst AreApart (ap (λ (x : State). x.requests.live) o.leads.stands.is ∙ ap (λ (r : serving.State). r.live) o.leads.keeps.requests)
+      subst AreApart (ap (λ (x : State). x.requests.live) o.leads.stands.is ∙ ap (λ (r : theory_requests.State). r.live) o.leads.keeps.requests)
       (all_apart setup (turns_of setup run) (turns_may setup run o.leads.stands.allowed))
 
   all_rooms : AllByRecursion HasRoom g.kept.upstreams.live
@@ -270,5 +270,5 @@ on_ok (Ok t) leads is = leads is
 on_ok (Err e) leads is = tt
 
 -- they were listed by what is on offer
-pub listed_by : {T E : Type 0} (r : Result T E) (offers offers' : offering.State) (new old : List (ℕ × ℕ)) (cs : List Connection) → offers ≡ offers' → OnOk r (new ≡ old ++ map (room_in offers) cs) → OnOk r (new ≡ old ++ map (room_in offers') cs)
-listed_by r offers offers' new old cs same is = subst (λ (os : offering.State). OnOk r (new ≡ old ++ map (room_in os) cs)) same is
+pub listed_by : {T E : Type 0} (r : Result T E) (offers offers' : theory_responses.State) (new old : List (ℕ × ℕ)) (cs : List Connection) → offers ≡ offers' → OnOk r (new ≡ old ++ map (room_in offers) cs) → OnOk r (new ≡ old ++ map (room_in offers') cs)
+listed_by r offers offers' new old cs same is = subst (λ (os : theory_responses.State). OnOk r (new ≡ old ++ map (room_in os) cs)) same is

@@ -8,12 +8,12 @@ use Rattle.std.proofs.lemmas.List.{length-map, take_more, reverse-append, revers
 use Rattle.model.specs.Logs as logs
 use Rattle.model.specs.Rooms.{IsAdmitted}
 use Rattle.model.specs.Setup.{Setup}
-use Rattle.conduct.specs.Rule.{known_of}
-use Rattle.outputs.specs.declared.events.Event.{Event}
-use Rattle.outputs.specs.declared.events.Output.{Output}
-use Rattle.outputs.specs.Views.{event_of, outputs_of}
-use Rattle.policy.specs.Moves.{Move}
-use Rattle.policy.specs.State.{conducts, tape_of}
+use Rattle.theory_errors.specs.Rule.{known_of}
+use Rattle.effects.specs.declared.events.Event.{Event}
+use Rattle.effects.specs.declared.events.Output.{Output}
+use Rattle.effects.specs.Views.{event_of, outputs_of}
+use Rattle.theory.specs.Moves.{Move}
+use Rattle.theory.specs.State.{conducts, tape_of}
 use Rattle.gateway.specs.Promises.{Promise}
 use Rattle.gateway.specs.declared.runs.RunFault.{RunFault}
 use Rattle.gateway.specs.declared.runs.RunFault.TheVariants.{NotAdmitted, Memory}

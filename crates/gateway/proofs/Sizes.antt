@@ -5,43 +5,43 @@ use Rattle.model.specs.Logs.{Step, client_in}
 use Rattle.model.specs.Octets.{IsStrictFront}
 use Rattle.model.specs.Setup.{Setup}
 use Rattle.model.specs.Known.{Known}
-use Rattle.conduct.specs.Book.{Book, first_desk}
-use Rattle.conduct.specs.Rule.{AreKnown, known_of}
-use Rattle.conduct.proofs.Knowing.{known_so}
-use Rattle.offering.specs.State as offering
-use Rattle.upstreams.specs.Kept.{nothing}
+use Rattle.theory_errors.specs.Book.{Book, first_ledger}
+use Rattle.theory_errors.specs.Rule.{AreKnown, known_of}
+use Rattle.theory_errors.proofs.Knowing.{known_so}
+use Rattle.theory_responses.specs.State as theory_responses
+use Rattle.upstream_connections.specs.Kept.{nothing}
 use Rattle.header_blocks.specs.Encoding.{first_encoding}
 use Rattle.model.specs.Tables.{first_table, total_size}
 use Rattle.model.specs.Limits.{first_window}
-use Rattle.judgement.specs.Inbound.{book_of}
-use Rattle.receiving.specs.Marks.{total}
-use Rattle.marks_kept.specs.Sides.{Side, queue_of}
-use Rattle.policy.specs.Moves.{Move}
-use Rattle.policy.specs.State.{conducts}
-use Rattle.policy.specs.Rule.{RestsBehind}
-use Rattle.relay.specs.View.{View, waiting_for}
-use Rattle.holding.specs.Held.{IsSmall, held_in}
-use Rattle.holding.proofs.Holding.{little_kept}
+use Rattle.connection_state.specs.Inbound.{book_of}
+use Rattle.theory_receive_windows.specs.Marks.{total}
+use Rattle.window_credit.specs.Sides.{Side, queue_of}
+use Rattle.theory.specs.Moves.{Move}
+use Rattle.theory.specs.State.{conducts}
+use Rattle.theory.specs.Rule.{RestsBehind}
+use Rattle.refinement.specs.View.{View, waiting_for}
+use Rattle.theory_memory_bound.specs.Held.{IsSmall, held_in}
+use Rattle.theory_memory_bound.proofs.Holding.{little_kept}
 use Rattle.gateway.specs.declared.phase.Phase.{Phase}
 use Rattle.gateway.specs.declared.phase.Phase.TheVariants as phase
 use Rattle.gateway.specs.Stands.{Standing, Stands, IsOpen, IsReadIn, is_open, is_dead}
 use Rattle.gateway.specs.Held.{IsHeldWithin}
 use Rattle.gateway.specs.Held.{held_in as held}
 
--- ---- rooms in which nothing is kept
+-- ---- a session in which nothing is kept
 
 nothing_waits : (kept : View) → kept.marks ≡ [] → (stream : ℕ) → waiting_for stream kept ≤ first_window
 nothing_waits kept none stream =
     let nothing : waiting_for stream kept ≡ 0 = ap (λ (sides : List Side). total (queue_of stream sides)) none in
     omega (arith, nothing)
 
-pub none_small : (setup : Setup) (kept : View) → book_of (record { given = []; untaken = 0 }) kept.inbound ≡ (first_desk setup).book → kept.offers ≡ offering.start → kept.upstreams ≡ nothing → kept.marks ≡ [] → kept.inbound.table ≡ first_table → kept.encoding ≡ first_encoding false → IsSmall setup kept
+pub none_small : (setup : Setup) (kept : View) → book_of (record { given = []; untaken = 0 }) kept.inbound ≡ (first_ledger setup).book → kept.offers ≡ theory_responses.start → kept.upstreams ≡ nothing → kept.marks ≡ [] → kept.inbound.table ≡ first_table → kept.encoding ≡ first_encoding false → IsSmall setup kept
 unfolding total_size
 none_small setup kept book offers upstreams marks table encoding =
     let block = ap (λ (b : Book). b.block) book in
     rw (offers, upstreams, table, encoding, block) (record { beside = omega arith; few_boxes = omega arith; few_requests = omega arith; few_connections = omega arith; each = λ stream. omega arith; all = omega arith; few_waiting = nothing_waits kept marks })
 
-pub none_held : (setup : Setup) (kept : View) → book_of (record { given = []; untaken = 0 }) kept.inbound ≡ (first_desk setup).book → kept.offers ≡ offering.start → kept.upstreams ≡ nothing → kept.inbound.table ≡ first_table → kept.encoding ≡ first_encoding false → held_in kept ≡ 0
+pub none_held : (setup : Setup) (kept : View) → book_of (record { given = []; untaken = 0 }) kept.inbound ≡ (first_ledger setup).book → kept.offers ≡ theory_responses.start → kept.upstreams ≡ nothing → kept.inbound.table ≡ first_table → kept.encoding ≡ first_encoding false → held_in kept ≡ 0
 unfolding total_size
 none_held setup kept book offers upstreams table encoding =
     let block = ap (λ (b : Book). b.block) book in
@@ -94,7 +94,7 @@ module _ (setup : Setup) (g : Standing) (step : Step) (log : List Step) (run : L
 
   open_small : (p : Phase) → g.phase ≡ p → is_open p ≡ true → IsSmall setup g.kept
   open_small phase.New is on = absurd (let o : IsOpen setup phase.New g.partial g.kept (client_in (step ∷ log)) run = subst (λ x. Rattle.gateway.specs.Stands.IsIn x setup g.partial g.kept (client_in (step ∷ log)) run) is stands.is_in in
-      let owed : settings_frame ∷ [] ≡ [] = sym o.leads.keeps.owed ∙ sym (ap (λ s. s.desk.queue) o.leads.stands.is) ∙ rests.conduct.nothing in cc)
+      let owed : settings_frame ∷ [] ≡ [] = sym o.leads.keeps.owed ∙ sym (ap (λ s. s.ledger.queue) o.leads.stands.is) ∙ rests.conduct.nothing in cc)
   open_small phase.Preface is on =
       let o : IsOpen setup phase.Preface g.partial g.kept (client_in (step ∷ log)) run = subst (λ x. Rattle.gateway.specs.Stands.IsIn x setup g.partial g.kept (client_in (step ∷ log)) run) is stands.is_in in
       little_kept setup run g.kept o.state o.leads rests small_body (λ streaming. stands.fits known refl knows)

@@ -5,23 +5,23 @@ use Rattle.model.specs.Logs.{Event, Output, Step, client_in}
 use Rattle.model.specs.Setup.{Setup}
 use Rattle.model.specs.Known.{Known}
 use Rattle.model.specs.Tapes.{Entry, listed, outputs, put_entry, IsRead, IsStep}
-use Rattle.conduct.specs.Rule.{AreKnown}
-use Rattle.conduct.specs.Summary.{Summary}
-use Rattle.offering.specs.Held.{FitRooms}
-use Rattle.policy.specs.Moves.{Move}
-use Rattle.policy.specs.Moves.Move.{Does, Settles}
-use Rattle.policy.specs.State.{State, conducts, tape_of, state_of}
-use Rattle.policy.specs.Rule.{Rests, RestsBehind}
-use Rattle.policy.specs.Steps.{told_by}
-use Rattle.policy.proofs.Stepping.{before_is}
-use Rattle.relay.specs.View.{View, square, Leads}
-use Rattle.relay.specs.Performing.{put_all}
-use Rattle.relay.proofs.Performing.{tape_behind}
-use Rattle.relay.proofs.Resting.{rests_are_ready}
-use Rattle.steps.specs.Inputs.{Input, events_in}
-use Rattle.steps.specs.Inputs.Input.{OfEvent}
-use Rattle.steps.specs.Comings.{StandsAt, Comes}
-use Rattle.steps.specs.Resting.{IsSettled}
+use Rattle.theory_errors.specs.Rule.{AreKnown}
+use Rattle.theory_errors.specs.Summary.{Summary}
+use Rattle.theory_responses.specs.Held.{FitRooms}
+use Rattle.theory.specs.Moves.{Move}
+use Rattle.theory.specs.Moves.Move.{Does, Settles}
+use Rattle.theory.specs.State.{State, conducts, tape_of, state_of}
+use Rattle.theory.specs.Rule.{Rests, RestsBehind}
+use Rattle.theory.specs.Steps.{told_by}
+use Rattle.theory.proofs.Stepping.{before_is}
+use Rattle.refinement.specs.View.{View, balanced, Leads}
+use Rattle.refinement.specs.Performing.{put_all}
+use Rattle.refinement.proofs.Performing.{tape_behind}
+use Rattle.refinement.proofs.Resting.{rests_are_ready}
+use Rattle.event_handlers.specs.Inputs.{Input, events_in}
+use Rattle.event_handlers.specs.Inputs.Input.{OfEvent}
+use Rattle.event_handlers.specs.Comings.{StandsAt, Comes}
+use Rattle.event_handlers.specs.Resting.{IsSettled}
 use Rattle.gateway.specs.Stands.{AreAnswered, MayCome, AreFitting}
 use Rattle.gateway.proofs.Fitting.{fit_step}
 use Rattle.gateway.proofs.Told.{happened_by}
@@ -39,16 +39,16 @@ put_none (e ∷ t) = ap (λ (o : List Output). put_entry o e) (put_none t)
 
 module _ (setup : Setup) (log : List Step) (run : List Move) (answered : AreAnswered setup log run) where
   -- the gateway rests where moves led to what is at rest, and behind the connection's end
-  pub rests_behind : (moves : List Move) (now : Option View) → StandsAt setup moves square now → ((kept : View) → now ≡ Some kept → IsSettled kept) → RestsBehind setup moves
+  pub rests_behind : (moves : List Move) (now : Option View) → StandsAt setup moves balanced now → ((kept : View) → now ≡ Some kept → IsSettled kept) → RestsBehind setup moves
   rests_behind moves None over settled = over.rests
   rests_behind moves (Some kept) at settled =
       let s : State = at.0 in
-      let leads : Leads setup moves kept square s = at.1 in
+      let leads : Leads setup moves kept balanced s = at.1 in
       let ready = rests_are_ready setup moves kept s leads (settled kept refl).rest in
       subst (λ (u : Summary). Rests u (state_of setup moves)) (sym (before_is setup moves s leads.stands)) (subst (λ (x : State). Rests (told_by s) x) (sym leads.stands.is) ready.rests)
 
   -- what comes by an event's inputs is a step
-  pub step_by : (event : Event) (inputs : List Input) (now : Option View) (q : List Output) → events_in inputs ≡ listed event → (c : Comes setup run [] inputs square now q)
+  pub step_by : (event : Event) (inputs : List Input) (now : Option View) (q : List Output) → events_in inputs ≡ listed event → (c : Comes setup run [] inputs balanced now q)
       → IsStep (record { event = event; outputs = reverse q }) (tape_of c.moves)
   step_by event inputs now q events c = record {
     spelled = c.spelled;
@@ -59,7 +59,7 @@ module _ (setup : Setup) (log : List Step) (run : List Move) (answered : AreAnsw
 
   -- the log with one step more is answered
   pub answered_more : (event : Event) (inputs : List Input) (now : Option View) (q : List Output) → MayCome setup run event → events_in inputs ≡ listed event
-      → (c : Comes setup run [] inputs square now q) → RestsBehind setup (c.moves ++ run) → IsRead (client_in (record { event = event; outputs = reverse q } ∷ log)) (tape_of (c.moves ++ run))
+      → (c : Comes setup run [] inputs balanced now q) → RestsBehind setup (c.moves ++ run) → IsRead (client_in (record { event = event; outputs = reverse q } ∷ log)) (tape_of (c.moves ++ run))
       → AreAnswered setup (record { event = event; outputs = reverse q } ∷ log) (c.moves ++ run)
   answered_more event inputs now q admitted events c rests read known same knows = (
     c.moves,
@@ -76,7 +76,7 @@ module _ (setup : Setup) (log : List Step) (run : List Move) (answered : AreAnsw
 
   -- each event fits that came so far
   pub fits_more : (event : Event) (inputs : List Input) (now : Option View) (q : List Output) → AreFitting setup run → MayCome setup run event → (inputs ≡ OfEvent event ∷ []) ⊎ (events_in inputs ≡ [])
-      → (c : Comes setup run [] inputs square now q) → AreFitting setup (c.moves ++ run)
+      → (c : Comes setup run [] inputs balanced now q) → AreFitting setup (c.moves ++ run)
   fits_more event inputs now q fits admitted alone c known same knows =
       let before = known_before known c.moves run knows in
       subst (FitRooms known) (sym (tape_behind c.moves run))

@@ -8,8 +8,8 @@ use Rattle.model.specs.Tapes.{Noted, Entry, Breach, came, breaches, happened, fr
 use Rattle.model.specs.Tapes.Entry.{Came, Breached, Happened, Sent, Did}
 use Rattle.model.specs.Tapes.Breach.{WrongPreface, TooLong}
 use Rattle.frames.specs.Views.{IsUnfinished}
-use Rattle.steps.specs.Inputs.{Input, inputs_in, events_in}
-use Rattle.steps.specs.Inputs.Input.{OfFrame, OfBreach}
+use Rattle.event_handlers.specs.Inputs.{Input, inputs_in, events_in}
+use Rattle.event_handlers.specs.Inputs.Input.{OfFrame, OfBreach}
 use Rattle.gateway.specs.Stands.{IsUnbegun, IsBehind}
 
 -- ---- what came in, by its kind

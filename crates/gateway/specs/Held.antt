@@ -2,13 +2,13 @@
 use Rattle.std.specs.Prelude.{ℕ, ◌+◌, ◌*◌, ◌≤◌, length}
 use Rattle.model.specs.Setup.{Setup}
 use Rattle.model.specs.Limits.{first_window}
-use Rattle.marks_kept.specs.Sides.{queue_of}
-use Rattle.holding.specs.Held as rooms
+use Rattle.window_credit.specs.Sides.{queue_of}
+use Rattle.theory_memory_bound.specs.Held as session
 use Rattle.gateway.specs.Stands.{Standing}
 
--- all octet lists of its value: the client's octets that aren't a whole frame, and what the rooms keep
+-- all octet lists of its value: the client's octets that aren't a whole frame, and what the session keeps
 abbrev pub held_in : Standing → ℕ
-held_in g = length g.partial + rooms.held_in g.kept
+held_in g = length g.partial + session.held_in g.kept
 
 -- the most for each of at most 100 streams, and in all
 abbrev pub record_bound : Setup → ℕ
@@ -20,10 +20,10 @@ held_bound setup = 200000 + 100 * record_bound setup
 -- It holds no more: beside its streams, for each of them, of which there are at most 100, and in all. Beside connections for these at most 8 are open, which
 -- are idle. Of no stream there are more marks of DATA that waits than the connection's first receiving window has octets.
 pub record IsHeldWithin (setup : Setup) (g : Standing) : Type 0 where
-  pub beside : length g.partial + rooms.held_beside g.kept ≤ 200000
+  pub beside : length g.partial + session.held_beside g.kept ≤ 200000
   pub few_responses : length g.kept.offers.kept ≤ 100
   pub few_requests : length g.kept.upstreams.held ≤ 100
   pub few_connections : length g.kept.upstreams.live ≤ 108
-  pub each : (stream : ℕ) → rooms.held_for stream g.kept ≤ record_bound setup
+  pub each : (stream : ℕ) → session.held_for stream g.kept ≤ record_bound setup
   pub all : held_in g ≤ held_bound setup
   pub few_marks : (stream : ℕ) → length (queue_of stream g.kept.marks) ≤ first_window

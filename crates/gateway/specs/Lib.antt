@@ -6,7 +6,7 @@ pub mod Promises
 pub mod Runs
 pub mod Held
 pub mod Rooms
-pub use Rattle.outputs.specs.Views
+pub use Rattle.effects.specs.Views
 pub use Rattle.model.specs.Logs
 pub use Rattle.model.specs.Setup
 pub use Rattle.model.specs.Frames

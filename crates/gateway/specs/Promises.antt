@@ -7,7 +7,7 @@ use Rattle.model.specs.Tapes.{Entry}
 use Rattle.model.specs.Known.{Known}
 use Rattle.model.specs.Headline.{Headline}
 use Rattle.model.specs.Synchrony.{InStep}
-use Rattle.relay.specs.View.{View}
+use Rattle.refinement.specs.View.{View}
 
 -- Tables are in step behind a tape: those of the gateway are those of the other side, and turns were fair.
 pub record AreInStep (known : Known) (t : List Entry) : Type 0 where

@@ -5,18 +5,18 @@ use Rattle.model.specs.Logs.{Output}
 use Rattle.model.specs.Setup.{Setup}
 use Rattle.model.specs.Tapes as model
 use Rattle.frames.specs.Views.{IsUnfinished}
-use Rattle.relay.specs.View.{View, square}
-use Rattle.steps.specs.Inputs.{Input}
-use Rattle.steps.specs.Inputs.Input.{OfFrame, OfBreach}
-use Rattle.steps.specs.Comings.{ComesFrom}
-use Rattle.steps.specs.Resting.{IsSettled}
+use Rattle.refinement.specs.View.{View, balanced}
+use Rattle.event_handlers.specs.Inputs.{Input}
+use Rattle.event_handlers.specs.Inputs.Input.{OfFrame, OfBreach}
+use Rattle.event_handlers.specs.Comings.{ComesFrom}
+use Rattle.event_handlers.specs.Resting.{IsSettled}
 use Rattle.gateway.specs.declared.reading.Read.{Read}
 use Rattle.gateway.specs.declared.reading.Read.TheVariants as read
 
 -- ---- where a piece is cut
 
--- How many octets of a piece complete the frame that begins with those that wait, its header and as many behind that as it says (RFC 9113, section 4.1): all of the
--- piece where there are fewer.
+-- How many octets of a piece complete the frame that begins with those that wait, its header and as
+-- many behind that as it says (RFC 9113, section 4.1): all of the piece where there are fewer.
 abbrev pub completing_in : List ℕ → List ℕ → ℕ
 completing_in waiting piece = min (9 + length_field (waiting ++ piece) - length waiting) (length piece)
 
@@ -26,7 +26,7 @@ completing_in waiting piece = min (9 + length_field (waiting ++ piece) - length 
 pub record Taking (serves : Setup → Type 0) (old : View) (o : List Output) (text rest : List ℕ) (now : Option View) (o' : List Output) : Type 0 where
   pub frames : List Frame
   pub reading : Reading text frames rest
-  pub comes : (setup : Setup) → serves setup → ComesFrom setup old square o (reverse (map OfFrame frames)) square now o'
+  pub comes : (setup : Setup) → serves setup → ComesFrom setup old balanced o (reverse (map OfFrame frames)) balanced now o'
 
 -- where the connection goes on, the rest begins no frame, and no header that is too long
 abbrev pub LeavesRest : Option View → List ℕ → Type 0
@@ -39,7 +39,7 @@ pub record Takes (serves : Setup → Type 0) (old : View) (o : List Output) (tex
   pub reading : Reading text frames rest
   pub last : List Input
   pub broken : (last ≡ []) ⊎ ((last ≡ OfBreach model.Breach.TooLong ∷ []) × IsTooLong rest)
-  pub comes : (setup : Setup) → serves setup → ComesFrom setup old square o (last ++ reverse (map OfFrame frames)) square now o'
+  pub comes : (setup : Setup) → serves setup → ComesFrom setup old balanced o (last ++ reverse (map OfFrame frames)) balanced now o'
   pub leaves : LeavesRest now rest
 
 -- So many octets of the text were taken, and the connection goes on; or it was closed.

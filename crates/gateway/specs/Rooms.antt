@@ -9,9 +9,9 @@ use Rattle.model.specs.Logs.Output.{ToClient, Does}
 use Rattle.model.specs.Logs.Act.{Open, ToUp, Close, CloseClient}
 use Rattle.model.specs.Rooms.{IsRoom}
 use Rattle.model.specs.Tapes.{Entry}
-use Rattle.offering.specs.State as offering
-use Rattle.upstreams.specs.Connections.{Connection, number_of}
-use Rattle.steps.specs.Admission as steps
+use Rattle.theory_responses.specs.State as theory_responses
+use Rattle.upstream_connections.specs.Connections.{Connection, number_of}
+use Rattle.event_handlers.specs.Admission as steps
 use Rattle.gateway.specs.Stands.{Standing, is_open}
 
 -- A number is below all of these.
@@ -43,7 +43,7 @@ pub record AreRooms (known : Known) (t : List Entry) (rooms : List (ℕ × ℕ))
   pub each : AllByRecursion (λ (one : ℕ × ℕ). IsRoom known.setup.passing known one.0 t one.1) rooms
 
 -- those that a gateway tells, by what is on offer
-abbrev pub room_in : offering.State → Connection → ℕ × ℕ
+abbrev pub room_in : theory_responses.State → Connection → ℕ × ℕ
 room_in offers c = (number_of c, steps.room_of offers (Some c))
 
 abbrev pub rooms_in : Standing → List (ℕ × ℕ)

@@ -6,9 +6,9 @@ use Rattle.model.specs.Logs as logs
 use Rattle.model.specs.Logs.{Step}
 use Rattle.model.specs.Rooms.{IsAdmitted}
 use Rattle.model.specs.Setup.{Setup}
-use Rattle.outputs.specs.declared.events.Event.{Event}
-use Rattle.outputs.specs.declared.events.Output.{Output}
-use Rattle.outputs.specs.Views.{event_of, outputs_of}
+use Rattle.effects.specs.declared.events.Event.{Event}
+use Rattle.effects.specs.declared.events.Output.{Output}
+use Rattle.effects.specs.Views.{event_of, outputs_of}
 use Rattle.gateway.specs.declared.runs.RunFault.{RunFault}
 use Rattle.gateway.specs.declared.runs.RunFault.TheVariants.{NotAdmitted, Memory}
 use Rattle.gateway.specs.Promises.{Promise}
@@ -35,7 +35,8 @@ Explains setup events (Memory place) = (place < length events) ⊎ (place ≡ 0)
 
 -- ---- where what was put out is told
 
--- What is promised holds of the log of what was put out at the events before a place, and of no others, by a tape after which the event at that place may not come.
+-- What is promised holds of the log of what was put out at the events before a place, and of no
+-- others, by a tape after which the event at that place may not come.
 pub record IsRefusedBehind (setup : Setup) (events : List Event) (outputs : List (Vec Output Global)) (place : ℕ) : Type 0 where
   pub each : length outputs ≡ place
   pub event : logs.Event

@@ -5,7 +5,7 @@ use Rattle.model.specs.Setup.{Setup}
 use Rattle.gateway.specs.declared.config.Config.{Config}
 use Rattle.gateway.specs.declared.config.Route.{Route}
 use Rattle.gateway.specs.declared.config.Policy.{Policy}
-use Rattle.gateway.specs.declared.config.Policy.TheVariants as policy
+use Rattle.gateway.specs.declared.config.Policy.TheVariants as theory
 use Rattle.gateway.specs.declared.config.Passing.{Passing}
 use Rattle.gateway.specs.declared.config.Passing.TheVariants as passing
 
@@ -13,8 +13,8 @@ abbrev pub route_of : Route → setup.Route
 route_of route = record { authority = route.authority.items; path = route.prefix.items }
 
 abbrev pub policy_of : Policy → setup.Policy
-policy_of policy.Plain = setup.Policy.Plain
-policy_of policy.Indexing = setup.Policy.Indexing
+policy_of theory.Plain = setup.Policy.Plain
+policy_of theory.Indexing = setup.Policy.Indexing
 
 abbrev pub passing_of : Passing → setup.Passing
 passing_of passing.Whole = setup.Passing.Whole

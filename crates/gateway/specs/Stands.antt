@@ -7,17 +7,17 @@ use Rattle.model.specs.Setup.{Setup, Route}
 use Rattle.model.specs.Known.{Known}
 use Rattle.model.specs.Tapes.{Entry, came, breaches, frames_of, IsNoPreface, IsStep}
 use Rattle.model.specs.Rooms.{IsAdmitted}
-use Rattle.conduct.specs.Rule.{AreKnown}
-use Rattle.offering.specs.Held.{FitRooms}
+use Rattle.theory_errors.specs.Rule.{AreKnown}
+use Rattle.theory_responses.specs.Held.{FitRooms}
 use Rattle.frames.specs.Views.{IsUnfinished}
-use Rattle.answers.specs.declared.answer.Passing.{Passing}
-use Rattle.policy.specs.Moves.{Move}
-use Rattle.policy.specs.State.{State, conducts, tape_of}
-use Rattle.policy.specs.Steps.{AreAnsweredBy}
-use Rattle.relay.specs.View.{View, Pending, square, Leads}
-use Rattle.steps.specs.Comings.{IsOver}
-use Rattle.steps.specs.Resting.{IsSettled, IsPassedBy}
-use Rattle.steps.specs.Admission as steps
+use Rattle.upstream_response.specs.declared.answer.ResponsePassing.{ResponsePassing}
+use Rattle.theory.specs.Moves.{Move}
+use Rattle.theory.specs.State.{State, conducts, tape_of}
+use Rattle.theory.specs.Steps.{AreAnsweredBy}
+use Rattle.refinement.specs.View.{View, Pending, balanced, Leads}
+use Rattle.event_handlers.specs.Comings.{IsOver}
+use Rattle.event_handlers.specs.Resting.{IsSettled, IsPassedBy}
+use Rattle.event_handlers.specs.Admission as steps
 use Rattle.gateway.specs.Setups.{IsServable}
 use Rattle.gateway.specs.declared.preface.Start.{Start}
 use Rattle.gateway.specs.declared.preface.Start.TheVariants as start
@@ -37,7 +37,7 @@ IsStart text start.Wrong = IsNoPreface text
 pub record Standing : Type 0 where
   pub routes : List Route
   pub max_body : ℕ
-  pub passing : Passing
+  pub passing : ResponsePassing
   pub keep : Bool
   pub phase : Phase
   pub partial : List ℕ
@@ -81,8 +81,8 @@ opened_in g = if is_open g.phase then length g.kept.inbound.rows else g.opened
 
 -- what is to be done before all else: the gateway's settings are owed where nothing came yet
 abbrev pub pending_in : Phase → Pending
-pending_in phase.New = record square { owed = settings_frame ∷ [] }
-pending_in _ = square
+pending_in phase.New = record balanced { owed = settings_frame ∷ [] }
+pending_in _ = balanced
 
 -- What is kept of the client's octets before its preface was read, and behind it.
 pub record IsUnbegun (partial text : List ℕ) (t : List Entry) : Type 0 where

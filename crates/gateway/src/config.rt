@@ -1,9 +1,9 @@
 //! What a gateway is set up with.
 
 ghost use Rattle.std.specs.Prelude.{◌≡◌, ◌≤◌, false, map, IfOk};
-ghost use Rattle.tables.specs.State.{inserts};
+ghost use Rattle.theory_header_tables.specs.State.{inserts};
 ghost use Rattle.header_blocks.specs.Encoding.{is_indexing};
-ghost use Rattle.steps.specs.Resting.{IsPassedBy};
+ghost use Rattle.event_handlers.specs.Resting.{IsPassedBy};
 ghost use Rattle.gateway.specs.Held.{held_bound};
 ghost use Rattle.gateway.specs.Setups.{route_of, policy_of, setup_of};
 ghost use Rattle.gateway.specs.declared.config.Policy.TheVariants.{Plain};
@@ -59,8 +59,9 @@ pub struct Config {
 }
 
 impl Config {
-    /// What the configuration of these routes is where it says nothing else: blocks are written without the dynamic table, bodies are passed on whole, those of
-    /// requests and of responses have at most 1,048,576 octets, and no upstream connection is kept.
+    /// What the configuration of these routes is where it says nothing else: blocks are written
+    /// without the dynamic table, bodies are passed on whole, those of requests and of responses
+    /// have at most 1,048,576 octets, and no upstream connection is kept.
     pub fn new(routes: Vec<Route>) -> Config
         ensures { result ≡ record { routes = routes; policy = Plain; passing = Whole; max_body = 1048576; max_response = 1048576; keep = false } }
     {
@@ -84,12 +85,15 @@ impl Config {
     }
 
     /// The routes without their addresses, once more.
-    pub(crate) fn copy_routes(&self, alloc: Global) -> Result<Vec<causes::Route>, AllocError>
+    pub(crate) fn copy_routes(
+        &self,
+        alloc: Global,
+    ) -> Result<Vec<local_replies::RoutePattern>, AllocError>
         ensures { IfOk result (λ routes. routes.items ≡ map route_of self.now.routes.items) }
     {
         let mut routes = Vec::new(alloc);
         for route in &self.routes {
-            let copied = causes::Route {
+            let copied = local_replies::RoutePattern {
                 authority: Vec::from_slice(alloc, &route.authority)?,
                 prefix: Vec::from_slice(alloc, &route.prefix)?,
             };
@@ -99,12 +103,12 @@ impl Config {
     }
 
     /// How bodies are passed on, those of responses that are passed on whole with so many octets at most.
-    pub(crate) fn passing_on(&self) -> answers::Passing
+    pub(crate) fn passing_on(&self) -> upstream_response::ResponsePassing
         ensures { IsPassedBy (setup_of self.now) result }
     {
         match self.passing {
-            Passing::Whole => answers::Passing::Whole(self.max_response),
-            Passing::Streaming => answers::Passing::Streaming,
+            Passing::Whole => upstream_response::ResponsePassing::Whole(self.max_response),
+            Passing::Streaming => upstream_response::ResponsePassing::Streaming,
         }
     }
 

@@ -8,19 +8,19 @@ ghost use Rattle.model.specs.Tapes.{listed};
 ghost use Rattle.model.specs.Setup.{Setup};
 ghost use Rattle.model.specs.Setup.Passing.{Whole};
 ghost use Rattle.model.specs.Rooms.{IsAdmitted};
-ghost use Rattle.conduct.specs.Rule.{known_of};
-ghost use Rattle.answers.specs.Waiting.{passing_in};
-ghost use Rattle.outputs.specs.Views.{event_of, output_of, outputs_of};
-ghost use Rattle.serving.specs.Lines.{find};
-ghost use Rattle.upstreams.specs.Connections.{number_of};
-ghost use Rattle.steps.specs.Admission.{is_up, may_take, room_of as room_for, room_on, admits as admits_kept};
-ghost use Rattle.policy.specs.Moves.{Move};
-ghost use Rattle.policy.specs.State.{conducts, tape_of};
-ghost use Rattle.marks_kept.specs.Sides.{queue_of};
-ghost use Rattle.relay.specs.View.{square, waiting_for};
-ghost use Rattle.relay.specs.Rest.{Reached};
-ghost use Rattle.steps.specs.Resting.{IsSettled};
-ghost use Rattle.holding.specs.Held.{IsSmall, held_in as held_in_rooms};
+ghost use Rattle.theory_errors.specs.Rule.{known_of};
+ghost use Rattle.upstream_response.specs.Waiting.{passing_in};
+ghost use Rattle.effects.specs.Views.{event_of, output_of, outputs_of};
+ghost use Rattle.theory_requests.specs.Lines.{find};
+ghost use Rattle.upstream_connections.specs.Connections.{number_of};
+ghost use Rattle.event_handlers.specs.Admission.{is_up, may_take, room_of as room_for, room_on, admits as admits_kept};
+ghost use Rattle.theory.specs.Moves.{Move};
+ghost use Rattle.theory.specs.State.{conducts, tape_of};
+ghost use Rattle.window_credit.specs.Sides.{queue_of};
+ghost use Rattle.refinement.specs.View.{balanced, waiting_for};
+ghost use Rattle.refinement.specs.Rest.{Reached};
+ghost use Rattle.event_handlers.specs.Resting.{IsSettled};
+ghost use Rattle.theory_memory_bound.specs.Held.{IsSmall, held_in as held_in_session};
 ghost use Rattle.gateway.specs.Held.{IsHeldWithin, held_in};
 ghost use Rattle.gateway.specs.Rooms.{TellsRoom, AreRooms, room_in, rooms_in, turns, fails};
 ghost use Rattle.gateway.specs.Setups.{setup_of, IsServable};
@@ -31,22 +31,24 @@ use crate::config::Config;
 use crate::phase::Phase;
 use crate::preface::{PREFACE, Start, read_preface};
 use crate::reading::{Read, completing, take_frames};
-use answers::Passing;
-use causes::Route;
+use connection_state::{Connection, Terms};
+use effects::{Event, Output, Outputs};
+use event_handlers::paying::greet;
+use event_handlers::{
+    Breach, Onward, ServiceTerms, client_took, end, fail, hear, leave, leave_at, up_took,
+};
 use header_blocks::Encoder;
-use judgement::{Connection, Terms};
-use marks_kept::Marks;
-use offers::Offers;
-use outputs::{Event, Output, Outputs};
+use local_replies::RoutePattern;
 use protocol::limits::{GREATEST_UNTAKEN, LARGEST_EVENT};
-use relay::Rooms;
+use refinement::Session;
+use send_queue::Offers;
 use std::alloc::{AllocError, Global};
 use std::marker::Model;
 use std::mem;
-use steps::paying::greet;
-use steps::{Breach, Service, Went, client_took, end, fail, hear, leave, leave_at, up_took};
 use thiserror::Error;
-use upstreams::Upstreams;
+use upstream_connections::Upstreams;
+use upstream_response::ResponsePassing;
+use window_credit::Marks;
 
 /// How many octets of an upstream may come in one event, where none of its response wait.
 const ROOM: usize = LARGEST_EVENT;
@@ -62,24 +64,29 @@ pub enum Fault {
     Closed,
 }
 
-/// How many octets of an open connection may come in one event: where its response is passed on as it comes, those of the body that
-/// wait for its stream take room, unless it is idle. Its stream is looked for at `guess` first, which then is the place behind it.
-fn room_of(offers: &Offers, connection: &upstreams::Connection, guess: &mut usize) -> usize
+/// How many octets of an open connection may come in one event: where its response is passed on as
+/// it comes, those of the body that wait for its stream take room, unless it is idle. Its stream is
+/// looked for at `guess` first, which then is the place behind it.
+fn room_of(
+    offers: &Offers,
+    connection: &upstream_connections::UpstreamConnection,
+    guess: &mut usize,
+) -> usize
     ensures { result ≡ room_for offers.now (Some connection.now) }
 {
     if connection.is_idle() {
         return ROOM;
     }
     match connection.passing() {
-        Passing::Whole(_) => ROOM,
-        Passing::Streaming => ROOM.saturating_sub(offers.held(connection.stream(), guess)),
+        ResponsePassing::Whole(_) => ROOM,
+        ResponsePassing::Streaming => ROOM.saturating_sub(offers.held(connection.stream(), guess)),
     }
 }
 
 /// Lists connections behind others, each with its room: most are in the order of their streams.
 fn list_open(
     offers: &Offers,
-    connections: &[upstreams::Connection],
+    connections: &[upstream_connections::UpstreamConnection],
     rooms: &mut Vec<(u32, usize)>,
 ) -> Result<(), AllocError>
     ensures { OnOk result (rooms.new.items ≡ rooms.old.items ++ map (room_in offers.now) connections.now) }
@@ -121,13 +128,13 @@ fn changes_connections(event: &Event, outputs: &[Output]) -> bool
     is_failure(event) || turn_connections(outputs)
 }
 
-/// Rooms in which nothing is kept.
-fn no_rooms(alloc: Global) -> Rooms
+/// A session in which nothing is kept.
+fn new_session(alloc: Global) -> Session
     ensures small { (setup : Setup) → IsSmall setup result }
-    ensures nothing { held_in_rooms result ≡ 0 }
+    ensures nothing { held_in_session result ≡ 0 }
     ensures no_marks { result.marks ≡ [] }
 {
-    Rooms {
+    Session {
         inbound: Connection::new(alloc),
         offers: Offers::new(alloc),
         upstreams: Upstreams::new(alloc),
@@ -141,13 +148,13 @@ fn no_rooms(alloc: Global) -> Rooms
 #[derive(Drop)]
 pub struct Gateway {
     alloc: Global,
-    routes: Vec<Route>,
+    routes: Vec<RoutePattern>,
     max_body: u64,
-    passing: Passing,
+    passing: ResponsePassing,
     keep: bool,
     phase: Phase,
     partial: Vec<u8>,
-    rooms: Rooms,
+    session: Session,
     /// How many streams the client had opened when all that is kept was let go of.
     opened: u32,
 }
@@ -158,12 +165,32 @@ impl Model for Gateway {
     ghost Value = { Standing };
 
     // Each field is named, so that what one more holds has to be said here.
-    ghost view = { λ record { alloc = alloc; routes = routes; max_body = max_body; passing = passing; keep = keep; phase = phase; partial = partial; rooms = rooms; opened = opened }. record { routes = routes.items; max_body = max_body; passing = passing; keep = keep; phase = phase; partial = partial.items; kept = rooms; opened = opened } };
+    ghost view = { λ record {
+      alloc = alloc;
+      routes = routes;
+      max_body = max_body;
+      passing = passing;
+      keep = keep;
+      phase = phase;
+      partial = partial;
+      session = session;
+      opened = opened;
+    }. record {
+      routes = routes.items;
+      max_body = max_body;
+      passing = passing;
+      keep = keep;
+      phase = phase;
+      partial = partial.items;
+      kept = session;
+      opened = opened;
+    } };
 }
 
 impl Gateway {
-    /// A gateway for a new connection of a client, to which nothing came. The maxima are at most 1,073,741,824, and there are at most
-    /// 4,294,967,295 routes. An `Err` says that memory was refused.
+    /// A gateway for a new connection of a client, to which nothing came. The maxima are at most
+    /// 1,073,741,824, and there are at most 4,294,967,295 routes. An `Err` says that memory was
+    /// refused.
     pub fn new(alloc: Global, config: &Config) -> Result<Gateway, AllocError>
         requires { IsServable (setup_of config.now) }
         ensures { IfOk result (λ gateway. Stands (setup_of config.now) gateway [] []) }
@@ -177,7 +204,7 @@ impl Gateway {
             keep: config.keep,
             phase: Phase::New,
             partial: Vec::new(alloc),
-            rooms: Rooms {
+            session: Session {
                 inbound: Connection::new(alloc),
                 offers: Offers::new(alloc),
                 upstreams: Upstreams::new(alloc),
@@ -204,7 +231,7 @@ impl Gateway {
     fn count_streams(&self) -> u32
         ensures { result ≡ length self.now.kept.inbound.rows }
     {
-        self.rooms.inbound.opened()
+        self.session.inbound.opened()
     }
 
     /// Whether the client's connection is open, and memory was never refused.
@@ -221,21 +248,21 @@ impl Gateway {
     fn passes_whole(&self) -> bool
         ensures { result ≡ true → passing_in self.now.passing ≡ Whole }
     {
-        matches!(self.passing, Passing::Whole(_))
+        matches!(self.passing, ResponsePassing::Whole(_))
     }
 
     /// Whether the connection to an upstream is open.
     fn is_up(&self, k: u32) -> bool
         ensures { result ≡ is_up self.now.kept k }
     {
-        self.rooms.upstreams.find(k).is_some()
+        self.session.upstreams.find(k).is_some()
     }
 
     /// Whether the connection to an upstream is open, and has room for so many octets.
     fn fits(&self, k: u32, count: usize) -> bool
         ensures { result ≡ (is_up self.now.kept k && nat_le count (room_on self.now.kept k)) }
     {
-        match self.rooms.upstreams.find(k) {
+        match self.session.upstreams.find(k) {
             Some(connection) => count <= self.room_with(connection),
             None => false,
         }
@@ -245,15 +272,16 @@ impl Gateway {
     fn may_take(&self, k: u32, count: u64) -> bool
         ensures { result ≡ may_take (find number_of k self.now.kept.upstreams.live) count }
     {
-        match self.rooms.upstreams.find(k) {
+        match self.session.upstreams.find(k) {
             Some(connection) => count <= connection.untaken(),
             None => false,
         }
     }
 
-    /// Whether an event may come now: never once the client is closed or memory was refused; octets of the client at most 65,536
-    /// at a time, and while at most 1,073,741,824 octets for it aren't taken; octets of an upstream, at most as many as it has room for, while
-    /// its connection is open; of octets only those as taken that were put out and aren't yet.
+    /// Whether an event may come now: never once the client is closed or memory was refused; octets
+    /// of the client at most 65,536 at a time, and while at most 1,073,741,824 octets for it aren't
+    /// taken; octets of an upstream, at most as many as it has room for, while its connection is
+    /// open; of octets only those as taken that were put out and aren't yet.
     pub fn admits(&self, event: &Event) -> bool
         ensures state { result ≡ admits self.now (event_of event.now) }
         // It is what the log tells that the gateway stands for.
@@ -269,22 +297,24 @@ impl Gateway {
     {
         match event {
             Event::Client(piece) => {
-                piece.len() <= LARGEST_EVENT && self.rooms.untaken <= GREATEST_UNTAKEN
+                piece.len() <= LARGEST_EVENT && self.session.untaken <= GREATEST_UNTAKEN
             }
             Event::ClientEnd => true,
-            Event::ClientTook(count) => *count <= self.rooms.untaken,
+            Event::ClientTook(count) => *count <= self.session.untaken,
             Event::Up(k, piece) => self.fits(*k, piece.len()),
             Event::UpEnd(k) | Event::UpFailed(k) => self.is_up(*k),
             Event::UpTook(k, count) => self.may_take(*k, *count),
         }
     }
 
-    /// How many octets of an upstream may come in one event while its connection is open: 65,536, and where responses are passed on as
-    /// they come fewer by those of its body that weren't sent to the client yet, unless it is idle. Else none, and none once memory was refused.
+    /// How many octets of an upstream may come in one event while its connection is open: 65,536,
+    /// and where responses are passed on as they come fewer by those of its body that weren't sent
+    /// to the client yet, unless it is idle. Else none, and none once memory was refused.
     pub fn room(&self, k: u32) -> usize
         ensures state { result ≡ room_of self.now k }
         // It is what the log tells that the gateway stands for.
-        ensures log { (setup : Setup) (log : List Step) (run : List Move) → Stands setup self.now log run → TellsRoom (known_of setup (conducts run)) (tape_of run) k result }
+        ensures log { (setup : Setup) (log : List Step) (run : List Move) → Stands setup self.now log run
+            → TellsRoom (known_of setup (conducts run)) (tape_of run) k result }
     {
         if self.is_open() { self.room_on(k) } else { 0 }
     }
@@ -293,48 +323,52 @@ impl Gateway {
     fn room_on(&self, k: u32) -> usize
         ensures { result ≡ room_on self.now.kept k }
     {
-        match self.rooms.upstreams.find(k) {
+        match self.session.upstreams.find(k) {
             Some(connection) => self.room_with(connection),
             None => 0,
         }
     }
 
     /// How many of an open connection may.
-    fn room_with(&self, connection: &upstreams::Connection) -> usize
+    fn room_with(&self, connection: &upstream_connections::UpstreamConnection) -> usize
         ensures { result ≡ room_for self.now.kept.offers (Some connection.now) }
     {
         let mut guess = 0;
-        room_of(&self.rooms.offers, connection, &mut guess)
+        room_of(&self.session.offers, connection, &mut guess)
     }
 
-    /// Lists the open connections to upstreams in `rooms`, in place of what it has, by rising number, each with how many octets of it may come
-    /// in one event: none once memory was refused. An `Err` says that memory for the list was refused.
+    /// Lists the open connections to upstreams in `rooms`, in place of what it has, by rising
+    /// number, each with how many octets of it may come in one event: none once memory was refused.
+    /// An `Err` says that memory for the list was refused.
     pub fn list_rooms(&self, rooms: &mut Vec<(u32, usize)>) -> Result<(), AllocError>
         ensures state { OnOk result (rooms.new.items ≡ rooms_in self.now) }
         // They are those that the log tells that the gateway stands for.
-        ensures log { OnOk result ((setup : Setup) (log : List Step) (run : List Move) → Stands setup self.now log run → AreRooms (known_of setup (conducts run)) (tape_of run) rooms.new.items) }
+        ensures log { OnOk result ((setup : Setup) (log : List Step) (run : List Move) → Stands setup self.now log run
+            → AreRooms (known_of setup (conducts run)) (tape_of run) rooms.new.items) }
     {
         rooms.clear();
         if !self.is_open() {
             return Ok(());
         }
         list_open(
-            &self.rooms.offers,
-            self.rooms.upstreams.connections(),
+            &self.session.offers,
+            self.session.upstreams.connections(),
             rooms,
         )
     }
 
-    /// Brings the rooms of the open connections, as `list_rooms` told them before a step, to what it tells behind it: `outputs` is all that the step put out
-    /// for its event. Where responses are passed on whole they are listed anew only if that opened or closed a connection. An `Err` says that memory for
-    /// the list was refused.
+    /// Brings the rooms of the open connections, as `list_rooms` told them before a step, to what
+    /// it tells behind it: `outputs` is all that the step put out for its event. Where responses
+    /// are passed on whole they are listed anew only if that opened or closed a connection. An
+    /// `Err` says that memory for the list was refused.
     pub fn update_rooms(
         &self,
         event: &Event,
         outputs: &[Output],
         rooms: &mut Vec<(u32, usize)>,
     ) -> Result<(), AllocError>
-        ensures { OnOk result ((setup : Setup) (log : List Step) (run : List Move) (next : StandsNext setup self.now log run (event_of event.now) (outputs_of outputs.now))
+        ensures { OnOk result ((setup : Setup) (log : List Step) (run : List Move)
+            (next : StandsNext setup self.now log run (event_of event.now) (outputs_of outputs.now))
             → AreRooms (known_of setup (conducts run)) (tape_of run) rooms.old.items
             → AreRooms (known_of setup (conducts (next.segment ++ run))) (tape_of (next.segment ++ run)) rooms.new.items) }
     {
@@ -344,20 +378,22 @@ impl Gateway {
         self.list_rooms(rooms)
     }
 
-    /// Takes an event that may come, and puts out at the end of `out` all that it causes. A refused step puts out nothing,
-    /// and after a refusal for want of memory every step answers `Closed`.
+    /// Takes an event that may come, and puts out at the end of `out` all that it causes. A refused
+    /// step puts out nothing, and after a refusal for want of memory every step answers `Closed`.
     pub fn step(&mut self, event: &Event, out: &mut Vec<Output>) -> Result<(), Fault>
         requires admitted { is_dead self.old.phase ≡ false → admits self.old (event_of event.now) ≡ true }
         requires stands { is_dead self.old.phase ≡ false → (setup : Setup) × (log : List Step) × (run : List Move) × Stands setup self.old log run }
         // For whatever log the gateway stood, it stands afterwards for the same with this step behind it.
         ensures stands { OnOk result ((outputs : List Put) × (outputs_of out.new.items ≡ outputs_of out.old.items ++ outputs)
-            × ((setup : Setup) (log : List Step) (run : List Move) → Stands setup self.old log run → StandsNext setup self.new log run (event_of event.now) outputs)) }
+            × ((setup : Setup) (log : List Step) (run : List Move) → Stands setup self.old log run
+            → StandsNext setup self.new log run (event_of event.now) outputs)) }
         ensures nothing { OnErr result (out.new.items ≡ out.old.items) }
         ensures alive { OnOk result (is_dead self.new.phase ≡ false) }
         ensures dead { OnErr result (is_dead self.new.phase ≡ true) }
         ensures closed { IsErrOf result Fault.Closed ↔ (is_dead self.old.phase ≡ true) }
-        // What it holds of octets behind a step, answered or refused, stays below its bound, and what it holds for each stream below a part of that; and of no
-        // stream it has more marks of DATA that waits than the connection's first receiving window has octets.
+        // What it holds of octets behind a step, answered or refused, stays below its bound, and
+        // what it holds for each stream below a part of that; and of no stream it has more marks of
+        // DATA that waits than the connection's first receiving window has octets.
         ensures held { (setup : Setup) (log : List Step) (run : List Move) → Stands setup self.old log run → IsHeldWithin setup self.new }
         // Once it is closed, or memory was refused, it holds none.
         ensures lets_go { is_dead self.old.phase ≡ false → is_open self.new.phase ≡ false → held_in self.new ≡ 0 }
@@ -383,26 +419,27 @@ impl Gateway {
     fn let_go(&mut self)
         ensures stays { self.new ≡ record self.old { partial = []; kept = self.new.kept; opened = length self.old.kept.inbound.rows } }
         ensures small { (setup : Setup) → IsSmall setup self.new.kept }
-        ensures nothing { held_in_rooms self.new.kept ≡ 0 }
+        ensures nothing { held_in_session self.new.kept ≡ 0 }
         ensures no_marks { self.new.kept.marks ≡ [] }
     {
         self.opened = self.count_streams();
         self.partial = Vec::new(self.alloc);
-        self.rooms = no_rooms(self.alloc);
+        self.session = new_session(self.alloc);
     }
 
     /// A law of what is kept, which takes no step: no stream has more marks than octets of its DATA that wait.
     fn has_few_marks(&self)
         ensures { (stream : ℕ) → length (queue_of stream self.now.kept.marks) ≤ waiting_for stream self.now.kept }
     {
-        self.rooms.marks.are_few();
+        self.session.marks.are_few();
     }
 
     /// Lets go of all that is kept where the client is closed.
     fn let_go_if_over(&mut self)
         ensures phase { self.new.phase ≡ self.old.phase }
         ensures stands { (setup : Setup) (log : List Step) (run : List Move) → Stands setup self.old log run → Stands setup self.new log run }
-        ensures held { (setup : Setup) (step : Step) (log : List Step) (run : List Move) → Stands setup self.old (step ∷ log) run → IsHeldWithin setup self.new }
+        ensures held { (setup : Setup) (step : Step) (log : List Step) (run : List Move) → Stands setup self.old (step ∷ log) run
+            → IsHeldWithin setup self.new }
         ensures nothing { is_open self.old.phase ≡ false → is_dead self.old.phase ≡ false → held_in self.new ≡ 0 }
     {
         if matches!(self.phase, Phase::Closed) {
@@ -417,14 +454,15 @@ impl Gateway {
         requires admitted { admits self.old (event_of event.now) ≡ true }
         requires stands { (setup : Setup) × (log : List Step) × (run : List Move) × Stands setup self.old log run }
         ensures steps { OnOk result ((outputs : List Put) × (outputs_of out.new.items ≡ outputs_of out.old.items ++ outputs)
-            × ((setup : Setup) (log : List Step) (run : List Move) → Stands setup self.old log run → StandsNext setup self.new log run (event_of event.now) outputs)) }
+            × ((setup : Setup) (log : List Step) (run : List Move) → Stands setup self.old log run
+            → StandsNext setup self.new log run (event_of event.now) outputs)) }
         ensures nothing { OnErr result (out.new.items ≡ out.old.items) }
         ensures alive { OnOk result (is_dead self.new.phase ≡ false) }
     {
         let mut outputs = Outputs::new(self.alloc);
         self.greet(&mut outputs)?;
         let went = self.happen(event, &mut outputs)?;
-        if matches!(went, Went::Over) {
+        if matches!(went, Onward::Over) {
             self.phase = Phase::Closed;
         }
         outputs.append_to(out)
@@ -438,35 +476,35 @@ impl Gateway {
         ensures { OnOk result (Greets self.old self.new out.new) }
     {
         if matches!(self.phase, Phase::New) {
-            greet(&mut self.rooms, out)?;
+            greet(&mut self.session, out)?;
             self.phase = Phase::Preface;
         }
         Ok(())
     }
 
     /// What an event does, once the gateway's settings are sent.
-    fn happen(&mut self, event: &Event, out: &mut Outputs) -> Result<Went, AllocError>
+    fn happen(&mut self, event: &Event, out: &mut Outputs) -> Result<Onward, AllocError>
         requires admitted { listed (event_of event.now) ≡ event_of event.now ∷ [] → admits_kept self.old.kept (event_of event.now) ≡ true }
         requires settled { IsSettled self.old.kept }
-        requires reached { (setup : Setup) × Serves setup self.old × Reached setup self.old.kept square }
+        requires reached { (setup : Setup) × Serves setup self.old × Reached setup self.old.kept balanced }
         ensures happens { IfOk result (λ went. Happens self.old self.new went out.old out.new (event_of event.now)) }
         ensures terms { IfOk result (λ went. KeepsTerms self.old self.new) }
         ensures rests { IfOk result (λ went. IsSettledIf went self.new.kept) }
     {
         let alloc = self.alloc;
         let keep = self.keep;
-        let rooms = &mut self.rooms;
+        let session = &mut self.session;
         match event {
             Event::Client(piece) => self.take_piece(piece, out),
             Event::ClientEnd => {
-                leave(rooms, out)?;
-                Ok(Went::Over)
+                leave(session, out)?;
+                Ok(Onward::Over)
             }
-            Event::ClientTook(count) => client_took(alloc, rooms, *count, out),
-            Event::Up(k, octets) => hear(alloc, rooms, *k, octets, keep, out),
-            Event::UpEnd(k) => end(alloc, rooms, *k, out),
-            Event::UpFailed(k) => fail(alloc, rooms, *k, out),
-            Event::UpTook(k, count) => up_took(alloc, rooms, *k, *count, out),
+            Event::ClientTook(count) => client_took(alloc, session, *count, out),
+            Event::Up(k, octets) => hear(alloc, session, *k, octets, keep, out),
+            Event::UpEnd(k) => end(alloc, session, *k, out),
+            Event::UpFailed(k) => fail(alloc, session, *k, out),
+            Event::UpTook(k, count) => up_took(alloc, session, *k, *count, out),
         }
     }
 
@@ -477,10 +515,11 @@ impl Gateway {
         matches!(self.phase, Phase::Frames) && !self.partial.is_empty()
     }
 
-    /// Takes octets of the client, behind those that weren't read yet. Only what completes a frame is copied there; the rest is read where it lies.
-    fn take_piece(&mut self, piece: &[u8], out: &mut Outputs) -> Result<Went, AllocError>
+    /// Takes octets of the client, behind those that weren't read yet. Only what completes a frame
+    /// is copied there; the rest is read where it lies.
+    fn take_piece(&mut self, piece: &[u8], out: &mut Outputs) -> Result<Onward, AllocError>
         requires settled { IsSettled self.old.kept }
-        requires reached { (setup : Setup) × Serves setup self.old × Reached setup self.old.kept square }
+        requires reached { (setup : Setup) × Serves setup self.old × Reached setup self.old.kept balanced }
         ensures receives { IfOk result (λ went. Receives self.old self.new went out.old out.new (self.old.partial ++ piece.now)) }
         ensures terms { IfOk result (λ went. KeepsTerms self.old self.new) }
         ensures rests { IfOk result (λ went. IsSettledIf went self.new.kept) }
@@ -490,15 +529,15 @@ impl Gateway {
             return self.take_behind(piece, out);
         }
         match self.take_behind(front, out)? {
-            Went::On => self.take_behind(rest, out),
-            Went::Over => Ok(Went::Over),
+            Onward::On => self.take_behind(rest, out),
+            Onward::Over => Ok(Onward::Over),
         }
     }
 
     /// Takes octets of the client, copied behind those that weren't read yet, if there are any.
-    fn take_behind(&mut self, piece: &[u8], out: &mut Outputs) -> Result<Went, AllocError>
+    fn take_behind(&mut self, piece: &[u8], out: &mut Outputs) -> Result<Onward, AllocError>
         requires settled { IsSettled self.old.kept }
-        requires reached { (setup : Setup) × Serves setup self.old × Reached setup self.old.kept square }
+        requires reached { (setup : Setup) × Serves setup self.old × Reached setup self.old.kept balanced }
         ensures receives { IfOk result (λ went. Receives self.old self.new went out.old out.new (self.old.partial ++ piece.now)) }
         ensures terms { IfOk result (λ went. KeepsTerms self.old self.new) }
         ensures rests { IfOk result (λ went. IsSettledIf went self.new.kept) }
@@ -511,11 +550,12 @@ impl Gateway {
         self.read(&text, out)
     }
 
-    /// Reads octets of the client, where none wait: the preface, if it wasn't read, and then frames. What is left of them waits.
-    fn read(&mut self, text: &[u8], out: &mut Outputs) -> Result<Went, AllocError>
+    /// Reads octets of the client, where none wait: the preface, if it wasn't read, and then
+    /// frames. What is left of them waits.
+    fn read(&mut self, text: &[u8], out: &mut Outputs) -> Result<Onward, AllocError>
         requires none_wait { self.old.partial ≡ [] }
         requires settled { IsSettled self.old.kept }
-        requires reached { (setup : Setup) × Serves setup self.old × Reached setup self.old.kept square }
+        requires reached { (setup : Setup) × Serves setup self.old × Reached setup self.old.kept balanced }
         ensures receives { IfOk result (λ went. Receives self.old self.new went out.old out.new text.now) }
         ensures terms { IfOk result (λ went. KeepsTerms self.old self.new) }
         ensures rests { IfOk result (λ went. IsSettledIf went self.new.kept) }
@@ -527,20 +567,20 @@ impl Gateway {
             Start::Whole => self.read_frames(&text[PREFACE.len()..], out),
             Start::Part => {
                 self.partial.extend_from_slice(text)?;
-                Ok(Went::On)
+                Ok(Onward::On)
             }
             Start::Wrong => {
-                leave_at(&mut self.rooms, Breach::WrongPreface, out)?;
-                Ok(Went::Over)
+                leave_at(&mut self.session, Breach::WrongPreface, out)?;
+                Ok(Onward::Over)
             }
         }
     }
 
     /// Reads octets behind the preface, where none wait. What is left of them waits.
-    fn read_frames(&mut self, text: &[u8], out: &mut Outputs) -> Result<Went, AllocError>
+    fn read_frames(&mut self, text: &[u8], out: &mut Outputs) -> Result<Onward, AllocError>
         requires none_wait { self.old.partial ≡ [] }
         requires settled { IsSettled self.old.kept }
-        requires reached { (setup : Setup) × Serves setup self.old × Reached setup self.old.kept square }
+        requires reached { (setup : Setup) × Serves setup self.old × Reached setup self.old.kept balanced }
         ensures reads { IfOk result (λ went. ReadsOn self.old self.new went out.old out.new text.now) }
         ensures terms { IfOk result (λ went. KeepsTerms self.old self.new) }
         ensures rests { IfOk result (λ went. IsSettledIf went self.new.kept) }
@@ -549,18 +589,18 @@ impl Gateway {
             routes: &self.routes,
             max_body: self.max_body,
         };
-        let service = Service {
+        let service = ServiceTerms {
             terms,
             passing: self.passing,
             keep: self.keep,
         };
         self.phase = Phase::Frames;
-        match take_frames(self.alloc, &mut self.rooms, text, service, out)? {
+        match take_frames(self.alloc, &mut self.session, text, service, out)? {
             Read::Rest(used) => {
                 self.partial.extend_from_slice(&text[used..])?;
-                Ok(Went::On)
+                Ok(Onward::On)
             }
-            Read::Over => Ok(Went::Over),
+            Read::Over => Ok(Onward::Over),
         }
     }
 }

@@ -2,7 +2,7 @@
 
 ghost use Rattle.std.specs.Prelude.{◌≡◌, [], length, map, IfOk, IfErr, OnOk};
 ghost use Rattle.model.specs.Setup.{Setup};
-ghost use Rattle.outputs.specs.Views.{event_of};
+ghost use Rattle.effects.specs.Views.{event_of};
 ghost use Rattle.gateway.specs.Promises.{Promise};
 ghost use Rattle.gateway.specs.Runs.{log_of, Explains, Stops};
 ghost use Rattle.gateway.specs.Setups.{setup_of, IsServable};
@@ -10,7 +10,7 @@ ghost use Rattle.gateway.specs.Stands.{Stands};
 
 use crate::config::Config;
 use crate::gateway::Gateway;
-use outputs::{Event, Output};
+use effects::{Event, Output};
 use std::alloc::Global;
 use thiserror::Error;
 
@@ -25,11 +25,13 @@ pub enum RunFault {
     Memory(usize),
 }
 
-/// Runs a gateway over events, and answers what it put out at each. The maxima are at most 1,073,741,824, and there are at most
-/// 4,294,967,295 routes. Upstream connections are kept or not, as the configuration says.
+/// Runs a gateway over events, and answers what it put out at each. The maxima are at most
+/// 1,073,741,824, and there are at most 4,294,967,295 routes. Upstream connections are kept or not,
+/// as the configuration says.
 pub fn run(alloc: Global, config: &Config, events: &[Event]) -> Result<Vec<Vec<Output>>, RunFault>
     requires { IsServable (setup_of config.now) }
-    // The log of the events and of what was put out has the headline, and behind it tables are in step, for any events, however the octets are cut.
+    // The log of the events and of what was put out has the headline, and behind it tables are in
+    // step, for any events, however the octets are cut.
     ensures promised { IfOk result (λ outputs. Promise (setup_of config.now) (log_of events.now outputs.items)) }
     ensures each { IfOk result (λ outputs. length outputs.items ≡ length events.now) }
     // An event is refused only where it may not come after such a log of the events before it.
@@ -42,8 +44,9 @@ pub fn run(alloc: Global, config: &Config, events: &[Event]) -> Result<Vec<Vec<O
     }
 }
 
-/// Runs a gateway over events, likewise, and has in `outputs`, in place of what it has, what that put out at each that was taken: where the run is refused, at
-/// those before the event that the fault names. So an event is refused only where it may not come behind just these.
+/// Runs a gateway over events, likewise, and has in `outputs`, in place of what it has, what that
+/// put out at each that was taken: where the run is refused, at those before the event that the
+/// fault names. So an event is refused only where it may not come behind just these.
 pub fn run_into(
     alloc: Global,
     config: &Config,
@@ -62,8 +65,8 @@ pub fn run_into(
     run_all(alloc, &mut gateway, events, outputs)
 }
 
-/// Runs a gateway that no event came to over events, and adds what it put out at each that was taken. That one is lent keeps it out of the many ways in which
-/// this ends.
+/// Runs a gateway that no event came to over events, and adds what it put out at each that was
+/// taken. That one is lent keeps it out of the many ways in which this ends.
 fn run_all(
     alloc: Global,
     gateway: &mut Gateway,

@@ -20,7 +20,8 @@ pub record BecomesWhole (text octets : List ℕ) (to_head : Bool) : Type 0 where
 pub record Uses (old : State) (octets : List ℕ) (used : ℕ) : Type 0 where
   pub within : used ≤ length octets
   pub whole : used < length octets → (text : List ℕ) (before : List Part) → Stands text before old → BecomesWhole text (take used octets) old.to_head
-  pub no_shorter : (text : List ℕ) (before : List Part) → Stands text before old → (IsComplete text false old.to_head → ⊥) → NoneShorter (text ++ take used octets) old.to_head
+  pub no_shorter : (text : List ℕ) (before : List Part) → Stands text before old → (IsComplete text false old.to_head → ⊥)
+      → NoneShorter (text ++ take used octets) old.to_head
 
 -- Where the reader is past the response with these octets, the response ends with the last of them.
 abbrev pub Ends : State → List ℕ → State → Type 0

@@ -89,8 +89,8 @@ impl Told {
         matches!(self.items.last(), Some(Piece::Head(_)))
     }
 
-    /// Adds octets of a body of which so many more are to come. Those that come with the head have room for these too, since who
-    /// gathers the body puts them there.
+    /// Adds octets of a body of which so many more are to come. Those that come with the head have
+    /// room for these too, since who gathers the body puts them there.
     pub(crate) fn sized_body(&mut self, octets: &[u8], left: u64) -> Result<(), AllocError>
         ensures { OnOk result (self.new ≡ self.old ++ Body octets.now ∷ []) }
     {

@@ -85,7 +85,11 @@ impl Model for Reader {
 
     ghost Value = { State };
 
-    ghost view = { λ r. record { to_head = r.to_head; place = r.place; held = record { octets = r.held.items; connections = r.connections.items; keeps = r.keeps } } };
+    ghost view = { λ r. record {
+      to_head = r.to_head;
+      place = r.place;
+      held = record { octets = r.held.items; connections = r.connections.items; keeps = r.keeps };
+    } };
 
     ghost use Rattle.std.specs.Prelude.{◌≤◌, length};
     ghost use Rattle.response_texts.specs.HeadSizes.{field_octets};
@@ -112,14 +116,16 @@ impl Reader {
         }
     }
 
-    /// Takes the next octets, adds what they tell to the pieces, and answers how many it used: all of them, or those with which
-    /// the response became whole, and the rest isn't read.
+    /// Takes the next octets, adds what they tell to the pieces, and answers how many it used: all
+    /// of them, or those with which the response became whole, and the rest isn't read.
     ///
-    /// The reader stands for those with the pieces that were added, and also for all of the octets, which begin with the whole response
-    /// (`ok`). In a later call all octets are used, and ignored. A fault adds nothing, and every later call answers the same one. It is
-    /// the fault that stands in all octets so far, of which there is one at most (`laws`).
+    /// The reader stands for those with the pieces that were added, and also for all of the octets,
+    /// which begin with the whole response (`ok`). In a later call all octets are used, and
+    /// ignored. A fault adds nothing, and every later call answers the same one. It is the fault
+    /// that stands in all octets so far, of which there is one at most (`laws`).
     pub fn feed(&mut self, octets: &[u8], pieces: &mut Vec<Piece>) -> Result<usize, ResponseFault>
-        ensures ok { IfOk result (λ used. (added : List Part) × (parts_of pieces.new.items ≡ parts_of pieces.old.items ++ added) × Hears self.old octets.now added self.new × Hears self.old (take used octets.now) added self.new) }
+        ensures ok { IfOk result (λ used. (added : List Part) × (parts_of pieces.new.items ≡ parts_of pieces.old.items ++ added)
+            × Hears self.old octets.now added self.new × Hears self.old (take used octets.now) added self.new) }
         ensures used { IfOk result (λ used. Uses self.old octets.now used) }
         ensures knows { IfOk result (λ used. Learns self.old octets.now self.new × Learns self.old (take used octets.now) self.new) }
         ensures fault { IfErr result (λ fault. fault ≢ ResponseFault.Memory → Breaks self.old octets.now) }
@@ -142,8 +148,9 @@ impl Reader {
         outcome
     }
 
-    /// Whether the final head lets its connection stay open for another request: it is of HTTP/1.1, `close` isn't among the options of
-    /// its fields Connection, and the body ends before the connection does (`laws`). Before that head it is `false`.
+    /// Whether the final head lets its connection stay open for another request: it is of HTTP/1.1,
+    /// `close` isn't among the options of its fields Connection, and the body ends before the
+    /// connection does (`laws`). Before that head it is `false`.
     pub fn keeps(&self) -> bool
         ensures { result ≡ self.now.held.keeps }
     {
@@ -169,10 +176,12 @@ impl Reader {
         }
     }
 
-    /// Takes the next octets, adds what they tell to the pieces, or nothing where there is a fault, and answers how many it used.
+    /// Takes the next octets, adds what they tell to the pieces, or nothing where there is a fault,
+    /// and answers how many it used.
     fn tell(&mut self, octets: &[u8], pieces: &mut Vec<Piece>) -> Result<usize, ResponseFault>
         requires { self.old.place ≢ Place.Past }
-        ensures ok { IfOk result (λ used. (added : List Part) × (parts_of pieces.new.items ≡ parts_of pieces.old.items ++ added) × Hears self.old (take used octets.now) added self.new) }
+        ensures ok { IfOk result (λ used. (added : List Part) × (parts_of pieces.new.items ≡ parts_of pieces.old.items ++ added)
+            × Hears self.old (take used octets.now) added self.new) }
         ensures used { IfOk result (λ used. IsUsed self.old octets.now used self.new) }
         ensures learns { IfOk result (λ used. Learns self.old (take used octets.now) self.new) }
         ensures fault { IfErr result (λ fault. fault ≢ ResponseFault.Memory → Fails self.old octets.now fault) }

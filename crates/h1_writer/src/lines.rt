@@ -44,7 +44,8 @@ pub fn push_framing(length: Option<u64>, ended: bool, out: &mut Vec<u8>) -> Resu
     Ok(())
 }
 
-/// Adds the line that says that no other request is sent on the connection, unless that is kept (RFC 9112, section 9.6).
+/// Adds the line that says that no other request is sent on the connection, unless that is kept
+/// (RFC 9112, section 9.6).
 pub fn push_closing(keep: bool, out: &mut Vec<u8>) -> Result<(), AllocError>
     ensures { OnOk result (out.new.items ≡ out.old.items ++ lines_text (closing keep)) }
 {

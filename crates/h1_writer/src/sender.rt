@@ -26,8 +26,9 @@ enum Waiting {
     Chunks,
 }
 
-/// A request on its way to a server: the text goes out as the body comes (RFC 9112). The last octet of a declared length
-/// is held back until [`Sender::finish`], so that no server takes a request for whole before it is.
+/// A request on its way to a server: the text goes out as the body comes (RFC 9112). The last octet
+/// of a declared length is held back until [`Sender::finish`], so that no server takes a request
+/// for whole before it is.
 #[derive(Drop)]
 pub struct Sender {
     waiting: Waiting,
@@ -130,9 +131,11 @@ fn push_last(trailers: &[Field], out: &mut Vec<u8>) -> Result<(), AllocError>
 }
 
 impl Sender {
-    /// Adds the head of a request, and answers what sends the rest; `ended` where the head ended its stream, so that
-    /// there is no body: then, and only then, the text is whole. Of a head that declares an empty body whose stream goes
-    /// on, the last octet is held back. Where the connection is to be kept, the head doesn't ask the server to close it. An error is refused memory; nothing is added then.
+    /// Adds the head of a request, and answers what sends the rest; `ended` where the head ended
+    /// its stream, so that there is no body: then, and only then, the text is whole. Of a head that
+    /// declares an empty body whose stream goes on, the last octet is held back. Where the
+    /// connection is to be kept, the head doesn't ask the server to close it. An error is refused
+    /// memory; nothing is added then.
     pub fn start(
         head: &RequestHead,
         ended: bool,
@@ -140,7 +143,8 @@ impl Sender {
         out: &mut Vec<u8>,
     ) -> Result<Self, AllocError>
         requires { ended ≡ true → HasLength head.now.length [] }
-        ensures ok { IfOk result (λ sender. (written : List ℕ) × (out.new.items ≡ out.old.items ++ written) × Sending keep head.now ended written [] [] sender) }
+        ensures ok { IfOk result (λ sender. (written : List ℕ) × (out.new.items ≡ out.old.items ++ written)
+            × Sending keep head.now ended written [] [] sender) }
         ensures whole { IfOk result (λ sender. ended ≡ true → sender ≡ Whole) }
         ensures goes_on { IfOk result (λ sender. ended ≡ false → sender ≡ Whole → ⊥) }
         ensures refused { OnErr result (out.new.items ≡ out.old.items) }
@@ -152,9 +156,9 @@ impl Sender {
         Ok(Sender { waiting })
     }
 
-    /// Adds octets of the body: as a chunk, or as they are where the length was declared, of which the last octet is held
-    /// back, so that the text isn't whole behind them. An error is refused memory; nothing is added then, and the sender
-    /// stays as it was.
+    /// Adds octets of the body: as a chunk, or as they are where the length was declared, of which
+    /// the last octet is held back, so that the text isn't whole behind them. An error is refused
+    /// memory; nothing is added then, and the sender stays as it was.
     pub fn push(&mut self, octets: &[u8], out: &mut Vec<u8>) -> Result<(), AllocError>
         requires { MayPush self.old (length octets.now) }
         ensures ok { OnOk result ((written : List ℕ) × (out.new.items ≡ out.old.items ++ written) × Continues self.old written octets.now [] self.new) }
@@ -181,8 +185,9 @@ impl Sender {
         }
     }
 
-    /// Ends the text: with the octet that was held back, or the last chunk and these trailers, which are written behind chunks alone. An
-    /// error is refused memory; nothing is added then, and the sender stays as it was.
+    /// Ends the text: with the octet that was held back, or the last chunk and these trailers,
+    /// which are written behind chunks alone. An error is refused memory; nothing is added then,
+    /// and the sender stays as it was.
     pub fn finish(&mut self, trailers: &[Field], out: &mut Vec<u8>) -> Result<(), AllocError>
         requires { MayFinish self.old }
         ensures ok { OnOk result ((written : List ℕ) × (out.new.items ≡ out.old.items ++ written) × Continues self.old written [] trailers.now self.new) }
@@ -198,8 +203,9 @@ impl Sender {
         Ok(())
     }
 
-    /// The whole text, where octets of no declared length wait for their end: that of the head, which has so many octets, and behind it what is
-    /// written for the body at once. The body stays where it stands, from the place `body` on, with room for its chunk's line between it and the
+    /// The whole text, where octets of no declared length wait for their end: that of the head,
+    /// which has so many octets, and behind it what is written for the body at once. The body stays
+    /// where it stands, from the place `body` on, with room for its chunk's line between it and the
     /// head. These trailers stand behind it. An `Err` says that memory was refused.
     pub fn close(
         self,
@@ -211,7 +217,8 @@ impl Sender {
         requires chunked { self ≡ Chunking }
         requires room { head + 18 ≤ body }
         requires some { body < length octets.items }
-        ensures { IfOk result (λ text. (written : List ℕ) × (text ≡ take head octets.items ++ written) × Continues self written (drop body octets.items) trailers.now Whole) }
+        ensures { IfOk result (λ text. (written : List ℕ) × (text ≡ take head octets.items ++ written)
+            × Continues self written (drop body octets.items) trailers.now Whole) }
     {
         close_chunk(octets, head, body, trailers)
     }

@@ -12,8 +12,9 @@ use std::marker::Model;
 /// Room for the line of a chunk of any size (RFC 9112, section 7.1): sixteen digits, CR and LF.
 pub const LINE_ROOM: usize = 18;
 
-/// A request's text, or a part of it. A clause sees its octets. It may lie behind some that mean nothing: a body of one chunk stands where it was
-/// gathered, and what stands before it, which ends with the digits of its size, isn't as long as the room that was left for it.
+/// A request's text, or a part of it. A clause sees its octets. It may lie behind some that mean
+/// nothing: a body of one chunk stands where it was gathered, and what stands before it, which ends
+/// with the digits of its size, isn't as long as the room that was left for it.
 #[derive(Drop)]
 pub struct Text {
     octets: Vec<u8>,
@@ -84,8 +85,10 @@ pub(crate) fn push_last(trailers: &[Field], out: &mut Vec<u8>) -> Result<(), All
     Ok(())
 }
 
-/// The text of a head, of so many octets, and behind it of a body in one chunk, with the last chunk and these trailers (RFC 9112, section 7.1). The body stays where
-/// it stands, from the place `body` on; between it and the head lies room for its line. An `Err` says that memory was refused.
+/// The text of a head, of so many octets, and behind it of a body in one chunk, with the last chunk
+/// and these trailers (RFC 9112, section 7.1). The body stays where it stands, from the place
+/// `body` on; between it and the head lies room for its line. An `Err` says that memory was
+/// refused.
 pub(crate) fn close_chunk(
     mut octets: Vec<u8>,
     head: usize,

@@ -10,7 +10,7 @@ use Rattle.model.specs.Maxima.{counted, IsLeast, Maxima}
 use Rattle.header_blocks.specs.Encoding.{limits_with, AreEndsOf, StandsFor}
 use Rattle.header_blocks.specs.Due.{AreInRange, IsDue}
 use Rattle.header_blocks.specs.declared.limits.Limits.{Limits}
-use Rattle.header_blocks.specs.declared.limits.Due.{Due}
+use Rattle.header_blocks.specs.declared.limits.SizeUpdates.{SizeUpdates}
 
 -- a maximum that is announced unless it is reached
 abbrev pub unless : ℕ → ℕ → Option ℕ
@@ -57,7 +57,7 @@ in_range : (b : Bool) (x : ℕ) → x ≤ first_maximum → ForSome (if b then N
 in_range true x h = λ y e. let clash : ◌≡◌ {A = Option ℕ} None (Some y) = e in cc
 in_range false x h = λ y e. let same : x ≡ y = some_same x y e in omega (arith, same)
 
-pub none_due : (maximum : ℕ) (due : Due) → due ≡ record { least = None; last = None; reached = maximum } → IsDue maximum None due
+pub none_due : (maximum : ℕ) (due : SizeUpdates) → due ≡ record { least = None; last = None; reached = maximum } → IsDue maximum None due
 none_due maximum due is = rw is (record {
   least = λ x e. let clash : ◌≡◌ {A = Option ℕ} None (Some x) = e in cc;
   last = λ x e. let clash : ◌≡◌ {A = Option ℕ} None (Some x) = e in cc;
@@ -80,7 +80,7 @@ announced maximum ends (limit ∷ named) p = record {
       ∙ ap (λ l. (if nat_lt ends.least maximum then ends.least ∷ [] else []) ++ l) (listed (ends.last == min ends.least maximum) ends.last);
 }
 
-pub some_due : (maximum : ℕ) (ends : Limits) (due : Due) → AreInRange ends → due.least ≡ unless maximum (min ends.least maximum) → due.last ≡ unless (min ends.least maximum) ends.last → due.reached ≡ ends.last
+pub some_due : (maximum : ℕ) (ends : Limits) (due : SizeUpdates) → AreInRange ends → due.least ≡ unless maximum (min ends.least maximum) → due.last ≡ unless (min ends.least maximum) ends.last → due.reached ≡ ends.last
     → IsDue maximum (Some ends) due
 some_due maximum ends due range least last reached = record {
   least = subst (λ o. ForSome o (λ m. m ≤ first_maximum)) (sym least) (in_range (min ends.least maximum == maximum) (min ends.least maximum) (let h = range.least in omega (arith, h)));

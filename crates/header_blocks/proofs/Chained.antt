@@ -8,7 +8,7 @@ use Rattle.model.specs.Blocks.{Represents, AreMaxima, IsNewMaximum, IsBlock, Blo
 use Rattle.header_blocks.specs.Gathering.{Holds, Finishes}
 use Rattle.header_blocks.specs.Represented.{TakesField}
 use Rattle.header_blocks.specs.Decoding.{TakesMaximum, TakesMaxima, Settles, GathersFrom, DecodesFrom}
-use Rattle.header_blocks.specs.declared.fields.Taken.{Taken}
+use Rattle.header_blocks.specs.declared.fields.TakenField.{TakenField}
 use Rattle.header_blocks.specs.declared.gather.Decoded.{Decoded}
 use Rattle.header_blocks.specs.declared.gather.Decoded.TheVariants.{Fields, TooLarge}
 use Rattle.header_blocks.proofs.Gathered.{fields_then, within_rest}
@@ -42,7 +42,7 @@ gathers_start first now block start cap kept room p h = record {
   holds = h;
 }
 
-abbrev pub gathers_field : (first now next : Table) (block : List ℕ) (start cap : ℕ) (taken : Taken) (kept more : List Field) (room rest : Option ℕ) → GathersFrom first (take start block) cap kept room now
+abbrev pub gathers_field : (first now next : Table) (block : List ℕ) (start cap : ℕ) (taken : TakenField) (kept more : List Field) (room rest : Option ℕ) → GathersFrom first (take start block) cap kept room now
     → TakesField now (take (length block - start) (drop start block)) taken → Settles taken now next kept room more rest → GathersFrom first (take (start + taken.used) block) cap more rest next
 gathers_field first now next block start cap taken kept more room rest g t s =
     let b = g.is_block in

@@ -14,7 +14,7 @@ use Rattle.hpack_int.specs.Reading.{ReadsValue}
 use Rattle.header_blocks.specs.Represented.{BeginsNoField, BeginsNoMaximum, TakesField, SkipsField}
 use Rattle.header_blocks.specs.Decoding.{TakesMaxima, GathersFrom, Settles}
 use Rattle.header_blocks.specs.Gathering.{Holds}
-use Rattle.header_blocks.specs.declared.fields.Taken.{Taken}
+use Rattle.header_blocks.specs.declared.fields.TakenField.{TakenField}
 use Rattle.header_blocks.proofs.Chained.{gathers_start, gathers_field}
 use Rattle.header_blocks.proofs.Gathered.{stays_over, within_rest}
 use Rattle.header_blocks.proofs.Refused.{same_value}
@@ -148,7 +148,7 @@ last_of : (all : List Field) (field : Field) → all ++ field ∷ [] ≡ [] → 
 last_of [] field e = cc
 last_of (f ∷ all) field e = cc
 
-pub decoding_field : (first now next : Table) (block : List ℕ) (start cap : ℕ) (taken : Taken) (kept more : List Field) (room rest : Option ℕ) → Decoding first block start cap kept room now
+pub decoding_field : (first now next : Table) (block : List ℕ) (start cap : ℕ) (taken : TakenField) (kept more : List Field) (room rest : Option ℕ) → Decoding first block start cap kept room now
     → TakesField now (take (length block - start) (drop start block)) taken → Settles taken now next kept room more rest → Decoding first block (start + taken.used) cap more rest next
 decoding_field first now next block start cap taken kept more room rest d t s =
     let fits = within_rest block start taken.used t.within in
@@ -168,5 +168,5 @@ is_none_at (Some r) e = cc
 pub decoding_skipped : (first now : Table) (block : List ℕ) (start cap used : ℕ) (kept : List Field) (room : Option ℕ) → Decoding first block start cap kept room now
     → SkipsField now (take (length block - start) (drop start block)) used → room ≡ None → Decoding first block (start + used) cap kept room now
 decoding_skipped first now block start cap used kept room d s none =
-    let taken : Taken = record { field = s.field; used = used; inserts = false } in
+    let taken : TakenField = record { field = s.field; used = used; inserts = false } in
     decoding_field first now now block start cap taken kept kept room room d (record { some = s.some; within = s.within; is_field = s.is_field }) (record { table = refl; gathered = stays_over s.field kept room none })

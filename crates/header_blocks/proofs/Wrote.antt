@@ -20,7 +20,7 @@ use Rattle.header_blocks.specs.Encodes.{AddsRaw, AddsString, AddsLiteral, AddsFi
 use Rattle.header_blocks.specs.Due.{IsDue}
 use Rattle.header_blocks.specs.declared.limits.Limits.{Limits}
 use Rattle.header_blocks.specs.Writing.{AddsBlock}
-use Rattle.header_blocks.specs.declared.limits.Due.{Due}
+use Rattle.header_blocks.specs.declared.limits.SizeUpdates.{SizeUpdates}
 
 -- fronts
 pub front_same : (old new : List ℕ) → new ≡ old → IsFront old new
@@ -222,7 +222,7 @@ maxima_and table next last a b [] ys p q = subst (λ o. AreMaxima table (o ++ b)
 maxima_and table next last a b (x ∷ xs) ys p q =
     (p.0, p.1 ++ b, ap (λ o. o ++ b) p.2 ∙ append_assoc p.0 p.1 b, p.3, maxima_and (resized x table) next last p.1 b xs ys p.4 q)
 
-pub block_added : (indexing : Bool) (table first last next : Table) (due : Due) (fields : List Field) (old a b new : List ℕ) → AddsMaxima table (option_to_list due.least) first old a → AddsMaxima first (option_to_list due.last) last a b
+pub block_added : (indexing : Bool) (table first last next : Table) (due : SizeUpdates) (fields : List Field) (old a b new : List ℕ) → AddsMaxima table (option_to_list due.least) first old a → AddsMaxima first (option_to_list due.last) last a b
     → AddsFields indexing last fields next b new → AddsBlock indexing table due fields next old new
 block_added indexing table first last next due fields old a b new p q c = record {
   written = p.text ++ q.text ++ c.text;
@@ -249,7 +249,7 @@ fields_and indexing first now next fields place field old between new within at 
     let more : take (place + 1) fields ≡ take place fields ++ field ∷ [] = take_more fields place field within ∙ ap (λ f. take place fields ++ f ∷ []) (sym at) in
     subst (λ fs. AddsFields indexing first fs next old new) (sym more) (more_fields indexing first now next (take place fields) field old between new p c)
 
-pub encoded : (table : Table) (limits : Option Limits) (indexing : Bool) (maximum : ℕ) (due : Due) (next : Table) (fields : List Field) (before after : List ℕ) → IsDue maximum limits due → maximum ≡ table.maximum
+pub encoded : (table : Table) (limits : Option Limits) (indexing : Bool) (maximum : ℕ) (due : SizeUpdates) (next : Table) (fields : List Field) (before after : List ℕ) → IsDue maximum limits due → maximum ≡ table.maximum
     → AddsBlock indexing table due fields next before after
     → Encodes (record { table = table; limits = limits; indexing = indexing; refused = false }) fields next before after
 encoded table limits indexing maximum due next fields before after d same p = record {

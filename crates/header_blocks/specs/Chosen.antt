@@ -77,4 +77,5 @@ IsChosen indexing table octets field next =
 abbrev pub AreChosen : Bool → Table → List ℕ → List Field → Table → Type 0
 AreChosen indexing table octets [] next = (octets ≡ []) × (next ≡ table)
 AreChosen indexing table octets (field ∷ fields) next =
-    (front rest : List ℕ) × (between : Table) × (octets ≡ front ++ rest) × IsChosen indexing table front field between × AreChosen indexing between rest fields next
+    (front rest : List ℕ) × (between : Table) × (octets ≡ front ++ rest) × IsChosen indexing table front field between
+    × AreChosen indexing between rest fields next

@@ -4,7 +4,7 @@ use Rattle.model.specs.Messages.{Field}
 use Rattle.model.specs.Tables.{Table, total_size, added}
 use Rattle.model.specs.Blocks.{AreMaxima, IsNewMaximum, IsBlock, Block}
 use Rattle.header_blocks.specs.Gathering.{Holds}
-use Rattle.header_blocks.specs.declared.fields.Taken.{Taken}
+use Rattle.header_blocks.specs.declared.fields.TakenField.{TakenField}
 use Rattle.header_blocks.specs.declared.gather.Decoded.{Decoded}
 use Rattle.header_blocks.specs.declared.gather.Decoded.TheVariants.{Fields, TooLarge}
 
@@ -21,7 +21,7 @@ pub record TakesMaxima (old : Table) (block : List ℕ) (used : ℕ) (new : Tabl
   pub are_maxima : AreMaxima old (take used block) maxima new
 
 -- A field is inserted, where it is to be, and gathered.
-pub record Settles (taken : Taken) (old new : Table) (kept : List Field) (room : Option ℕ) (more : List Field) (rest : Option ℕ) : Type 0 where
+pub record Settles (taken : TakenField) (old new : Table) (kept : List Field) (room : Option ℕ) (more : List Field) (rest : Option ℕ) : Type 0 where
   pub table : new ≡ (if taken.inserts then added taken.field old else old)
   pub gathered : (cap : ℕ) (all : List Field) → Holds cap all kept room → Holds cap (all ++ taken.field ∷ []) more rest
 

@@ -3,7 +3,7 @@ use Rattle.std.specs.Prelude.{◌++◌, ◌≡◌, ℕ, ◌≤◌, ◌<◌, ◌/
 use Rattle.model.specs.Messages.{Field}
 use Rattle.model.specs.Tables.{Table, added}
 use Rattle.model.specs.Blocks.{IsString, IsNewName, IsNameOfEntry, IsLiteral, Represents, IsNewMaximum}
-use Rattle.header_blocks.specs.declared.fields.Taken.{Taken}
+use Rattle.header_blocks.specs.declared.fields.TakenField.{TakenField}
 use Rattle.header_blocks.specs.declared.fault.DecodeFault.{DecodeFault}
 use Rattle.header_blocks.specs.declared.fault.DecodeFault.TheVariants.{Memory}
 
@@ -24,7 +24,7 @@ pub record TakesLiteral (table : Table) (prefix : ℕ) (octets : List ℕ) (fiel
   pub is_literal : IsLiteral prefix (slice_index octets 0 / 2 ^ prefix) table (take used octets) field
 
 -- The first octets are one field, which is inserted into the table or not.
-pub record TakesField (table : Table) (octets : List ℕ) (taken : Taken) : Type 0 where
+pub record TakesField (table : Table) (octets : List ℕ) (taken : TakenField) : Type 0 where
   pub some : 0 < taken.used
   pub within : taken.used ≤ length octets
   pub is_field : Represents table (take taken.used octets) taken.field (if taken.inserts then added taken.field table else table)

@@ -6,16 +6,16 @@ use Rattle.model.specs.Tables.{Table}
 use Rattle.model.specs.Limits.{first_maximum}
 use Rattle.model.specs.Blocks.{IsBlock}
 use Rattle.header_blocks.specs.Chosen.{AreChosen}
-use Rattle.header_blocks.specs.declared.limits.Due.{Due}
+use Rattle.header_blocks.specs.declared.limits.SizeUpdates.{SizeUpdates}
 
 -- Maxima with which a block can begin, and where they lead.
-pub record CanBegin (table : Table) (due : Due) (reached : ℕ) : Type 0 where
+pub record CanBegin (table : Table) (due : SizeUpdates) (reached : ℕ) : Type 0 where
   pub least : ForSome due.least (λ m. m ≤ first_maximum)
   pub last : ForSome due.last (λ m. m ≤ first_maximum)
   pub leads : unwrap_or due.last (unwrap_or due.least table.maximum) ≡ reached
 
 -- A block of these maxima and fields is added at the end.
-pub record AddsBlock (indexing : Bool) (table : Table) (due : Due) (fields : List Field) (next : Table) (old new : List ℕ) : Type 0 where
+pub record AddsBlock (indexing : Bool) (table : Table) (due : SizeUpdates) (fields : List Field) (next : Table) (old new : List ℕ) : Type 0 where
   pub written : List ℕ
   pub added : new ≡ old ++ written
   pub is_block : IsBlock table written (option_to_list due.least ++ option_to_list due.last) fields next

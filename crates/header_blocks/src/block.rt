@@ -5,8 +5,8 @@ ghost use Rattle.std.specs.Prelude.{◌≡◌, ◌++◌, OnOk, OnErr, IfOk};
 use std::alloc::{AllocError, Global};
 use std::marker::Model;
 
-/// A header block, as far as its frames came. A clause sees its stream, whether its HEADERS has END_STREAM, and its fragments,
-/// joined.
+/// A header block, as far as its frames came. A clause sees its stream, whether its HEADERS has
+/// END_STREAM, and its fragments, joined.
 #[derive(Drop)]
 pub struct Block {
     id: u32,

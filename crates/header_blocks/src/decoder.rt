@@ -10,7 +10,7 @@ ghost use Rattle.header_blocks.specs.Decoding.{DecodesFrom, Settles};
 ghost use Rattle.header_blocks.specs.Faults.{IsFaultOf};
 
 use crate::fault::DecodeFault;
-use crate::fields::{Taken, skip_indexed, take_field};
+use crate::fields::{TakenField, skip_indexed, take_field};
 use crate::gather::{Decoded, Gathering};
 use crate::maxima::{is_maximum, take_maxima};
 use crate::strings::take_int;
@@ -20,8 +20,9 @@ use std::alloc::Global;
 use std::marker::Model;
 use std::snapshot::Snapshot;
 
-/// Decodes the blocks of a direction, in the order in which they come (RFC 7541). A clause sees its table, as the last block
-/// that was decoded leaves it, and the fault that it answers from then on, if any.
+/// Decodes the blocks of a direction, in the order in which they come (RFC 7541). A clause sees its
+/// table, as the last block that was decoded leaves it, and the fault that it answers from then on,
+/// if any.
 #[derive(Drop)]
 pub struct Decoder {
     table: Table,
@@ -40,7 +41,8 @@ impl Model for Decoder {
 
     ghost view = { λ decoder. record { table = table_behind decoder.fault decoder.before.value decoder.table; fault = decoder.fault } };
 
-    ghost invariant = { λ decoder. IsBounded (table_behind decoder.fault decoder.before.value decoder.table) × (total_size decoder.table.fields ≤ total_size (table_behind decoder.fault decoder.before.value decoder.table).fields) };
+    ghost invariant = { λ decoder. IsBounded (table_behind decoder.fault decoder.before.value decoder.table)
+        × (total_size decoder.table.fields ≤ total_size (table_behind decoder.fault decoder.before.value decoder.table).fields) };
 }
 
 impl Decoder {
@@ -60,9 +62,10 @@ impl Decoder {
         }
     }
 
-    /// The fields of the next block of the direction, where their sizes (the octets of name and value, and 32) sum to at most
-    /// `cap`; otherwise the whole block is decoded into the table all the same. A fault but `Memory` says that the octets are
-    /// no block by the table. After a fault every call answers the same fault, and the table is seen as it was before.
+    /// The fields of the next block of the direction, where their sizes (the octets of name and
+    /// value, and 32) sum to at most `cap`; otherwise the whole block is decoded into the table all
+    /// the same. A fault but `Memory` says that the octets are no block by the table. After a fault
+    /// every call answers the same fault, and the table is seen as it was before.
     pub fn decode(
         &mut self,
         alloc: Global,
@@ -125,11 +128,12 @@ fn decode_block(
 /// Inserts a field that was taken, where its representation says so, and gathers it.
 fn settle(
     alloc: Global,
-    taken: Taken,
+    taken: TakenField,
     table: &mut Table,
     gathering: &mut Gathering,
 ) -> Result<(), DecodeFault>
-    ensures settled { OnOk result (Settles taken table.old table.new gathering.old.fields.items gathering.old.room gathering.new.fields.items gathering.new.room) }
+    ensures settled { OnOk result (Settles taken table.old table.new gathering.old.fields.items gathering.old.room gathering.new.fields.items
+        gathering.new.room) }
     ensures memory { IfErr result (λ fault. fault ≡ Memory) }
     ensures bounded { IsBounded table.old → IsBounded table.new }
 {
@@ -139,7 +143,7 @@ fn settle(
 }
 
 /// Inserts a field that was taken, where its representation says so.
-fn insert(alloc: Global, taken: &Taken, table: &mut Table) -> Result<(), DecodeFault>
+fn insert(alloc: Global, taken: &TakenField, table: &mut Table) -> Result<(), DecodeFault>
     ensures inserted { OnOk result (table.new ≡ (if taken.now.inserts then added taken.now.field table.old else table.old)) }
     ensures memory { IfErr result (λ fault. fault ≡ Memory) }
     ensures bounded { IsBounded table.old → IsBounded table.new }

@@ -15,8 +15,9 @@ use protocol::limits::FIRST_TABLE_SIZE;
 use std::alloc::{AllocError, Global};
 use std::marker::Model;
 
-/// Encodes the blocks of a direction, in the order in which they are sent (RFC 7541). A clause sees its table, the least and
-/// the last of the limits since the last block, whether fields are inserted, and whether memory was refused.
+/// Encodes the blocks of a direction, in the order in which they are sent (RFC 7541). A clause sees
+/// its table, the least and the last of the limits since the last block, whether fields are
+/// inserted, and whether memory was refused.
 #[derive(Drop)]
 pub struct Encoder {
     alloc: Global,
@@ -63,9 +64,10 @@ impl Encoder {
         self.limits = Some(limits_and(self.limits, limit));
     }
 
-    /// Adds the block of the fields at the end of `out`. The name and the value of a field have at most 65,536 octets each.
-    /// Under the plain policy strings are written raw. An `Err` says that memory was refused; it leaves the octets of `out` as
-    /// they were, and every later call answers it.
+    /// Adds the block of the fields at the end of `out`. The name and the value of a field have at
+    /// most 65,536 octets each. Under the plain policy strings are written raw. An `Err` says that
+    /// memory was refused; it leaves the octets of `out` as they were, and every later call answers
+    /// it.
     pub fn encode(&mut self, fields: &[Field], out: &mut Vec<u8>) -> Result<(), AllocError>
         requires { All HasShortStrings fields.now }
         ensures encoded { OnOk result (Encodes self.old fields.now self.new.table out.old.items out.new.items) }

@@ -11,7 +11,7 @@ use std::alloc::Global;
 
 /// A field's representation that was taken from the front of octets.
 #[derive(Drop)]
-pub struct Taken {
+pub struct TakenField {
     pub field: Field,
     /// How many octets it takes.
     pub used: usize,
@@ -62,7 +62,7 @@ fn take_literal(
 }
 
 /// The indexed field at the front of octets (RFC 7541, section 6.1).
-fn take_indexed(alloc: Global, table: &Table, octets: &[u8]) -> Result<Taken, DecodeFault>
+fn take_indexed(alloc: Global, table: &Table, octets: &[u8]) -> Result<TakenField, DecodeFault>
     requires some { 0 < length octets.now }
     requires marked { 128 ≤ slice_index octets.now 0 }
     ensures taken { IfOk result (λ taken. TakesField table.now octets.now taken) }
@@ -74,7 +74,7 @@ fn take_indexed(alloc: Global, table: &Table, octets: &[u8]) -> Result<Taken, De
         return Err(DecodeFault::Index);
     };
     let field = Field::of(alloc, name, value)?;
-    Ok(Taken {
+    Ok(TakenField {
         field,
         used,
         inserts: false,
@@ -97,7 +97,7 @@ pub fn skip_indexed(table: &Table, octets: &[u8]) -> Result<usize, DecodeFault>
 }
 
 /// The representation of a field at the front of octets (RFC 7541, section 6); a maximum isn't one.
-pub fn take_field(alloc: Global, table: &Table, octets: &[u8]) -> Result<Taken, DecodeFault>
+pub fn take_field(alloc: Global, table: &Table, octets: &[u8]) -> Result<TakenField, DecodeFault>
     requires some { 0 < length octets.now }
     requires no_maximum { slice_index octets.now 0 < 32 ⊎ (64 ≤ slice_index octets.now 0) }
     ensures taken { IfOk result (λ taken. TakesField table.now octets.now taken) }
@@ -110,7 +110,7 @@ pub fn take_field(alloc: Global, table: &Table, octets: &[u8]) -> Result<Taken, 
     let inserts = octets[0] >= 64;
     let prefix = if inserts { 6 } else { 4 };
     let (field, used) = take_literal(alloc, table, prefix, octets)?;
-    Ok(Taken {
+    Ok(TakenField {
         field,
         used,
         inserts,

@@ -50,7 +50,8 @@ impl Gathering {
 
     /// Adds the next field. Once one doesn't fit, none is kept.
     pub fn add(&mut self, field: Field) -> Result<(), AllocError>
-        ensures { OnOk result ((cap : ℕ) (all : List FieldLine) → Holds cap all self.old.fields.items self.old.room → Holds cap (all ++ field ∷ []) self.new.fields.items self.new.room) }
+        ensures { OnOk result ((cap : ℕ) (all : List FieldLine) → Holds cap all self.old.fields.items self.old.room
+            → Holds cap (all ++ field ∷ []) self.new.fields.items self.new.room) }
     {
         let Some(room) = self.room else {
             return Ok(());

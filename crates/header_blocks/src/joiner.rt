@@ -11,10 +11,11 @@ use protocol::limits::{LONGEST_BLOCK, MOST_CONTINUATIONS};
 use std::alloc::{AllocError, Global};
 use std::marker::Model;
 
-/// Joins the fragments of HEADERS and CONTINUATION frames to header blocks (RFC 9113, section 4.3). A clause sees the block
-/// that was begun and isn't whole, and of how many CONTINUATION frames it came. A caller asks for each frame whether it has a
-/// fault before it hands its fragment over; joining is then refused for want of memory alone. A block that is whole in its
-/// HEADERS is decoded where it lies and never comes here.
+/// Joins the fragments of HEADERS and CONTINUATION frames to header blocks (RFC 9113, section 4.3).
+/// A clause sees the block that was begun and isn't whole, and of how many CONTINUATION frames it
+/// came. A caller asks for each frame whether it has a fault before it hands its fragment over;
+/// joining is then refused for want of memory alone. A block that is whole in its HEADERS is
+/// decoded where it lies and never comes here.
 #[derive(Drop)]
 pub struct Joiner {
     alloc: Global,
@@ -44,9 +45,10 @@ impl Joiner {
         }
     }
 
-    /// The fault of a frame that comes next, by its type, its stream and its payload, whatever its flags are: `Outside` of a
-    /// CONTINUATION where no block is begun, `Between` of any frame but a CONTINUATION of its stream where one is, and
-    /// `TooLong` where the block passes 65,536 octets or 64 CONTINUATION frames with it. Asking changes nothing.
+    /// The fault of a frame that comes next, by its type, its stream and its payload, whatever its
+    /// flags are: `Outside` of a CONTINUATION where no block is begun, `Between` of any frame but a
+    /// CONTINUATION of its stream where one is, and `TooLong` where the block passes 65,536 octets
+    /// or 64 CONTINUATION frames with it. Asking changes nothing.
     pub fn fault(&self, kind: u8, id: u32, payload: &[u8]) -> Option<JoinFault>
         requires { length payload.now ≤ 16384 }
         ensures { (flags : ℕ) → result ≡ fault_at self.now (record { kind = kind; flags = flags; id = id; payload = payload.now }) }
@@ -69,8 +71,8 @@ impl Joiner {
         None
     }
 
-    /// Begins a block with the fragment of a HEADERS that has no END_HEADERS, and keeps whether it has END_STREAM. An `Err` says
-    /// that memory was refused; it changes nothing.
+    /// Begins a block with the fragment of a HEADERS that has no END_HEADERS, and keeps whether it
+    /// has END_STREAM. An `Err` says that memory was refused; it changes nothing.
     pub fn first(&mut self, id: u32, ends: bool, fragment: &[u8]) -> Result<(), AllocError>
         requires nothing { self.old.begun ≡ None }
         requires short { length fragment.now ≤ longest_block }
@@ -83,8 +85,8 @@ impl Joiner {
         Ok(())
     }
 
-    /// Adds the fragment of a CONTINUATION to the block that was begun. An `Err` says that memory was refused; it changes
-    /// nothing.
+    /// Adds the fragment of a CONTINUATION to the block that was begun. An `Err` says that memory
+    /// was refused; it changes nothing.
     pub fn more(&mut self, fragment: &[u8]) -> Result<(), AllocError>
         requires { HasRoom self.old fragment.now }
         ensures begun { OnOk result (self.new ≡ continues self.old fragment.now) }

@@ -16,7 +16,7 @@ pub struct Limits {
 
 /// The maxima with which a block begins, in their order, and the one that is reached.
 #[derive(Clone, Copy)]
-pub struct Due {
+pub struct SizeUpdates {
     pub least: Option<u32>,
     pub last: Option<u32>,
     pub reached: u32,
@@ -36,18 +36,18 @@ pub fn limits_and(before: Option<Limits>, limit: u32) -> Limits
 }
 
 /// What a block begins with, where the table has this maximum and these limits came since the block before.
-pub fn due_maxima(maximum: u32, limits: Option<Limits>) -> Due
+pub fn due_maxima(maximum: u32, limits: Option<Limits>) -> SizeUpdates
     requires { ForSome limits AreInRange }
     ensures { IsDue maximum limits result }
 {
     let Some(limits) = limits else {
-        return Due {
+        return SizeUpdates {
             least: None,
             last: None,
             reached: maximum,
         };
     };
-    Due {
+    SizeUpdates {
         least: unless_reached(maximum, limits.least.min(maximum)),
         last: unless_reached(limits.least.min(maximum), limits.last),
         reached: limits.last,

@@ -11,7 +11,8 @@ use hpack_table::Field;
 pub enum Policy {
     /// No field is inserted, and all strings stand raw.
     Plain,
-    /// Each field is inserted that stands in no table and fits, and strings stand as their Huffman text where that is shorter.
+    /// Each field is inserted that stands in no table and fits, and strings stand as their Huffman
+    /// text where that is shorter.
     Indexing,
 }
 

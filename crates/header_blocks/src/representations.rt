@@ -12,15 +12,15 @@ ghost use Rattle.header_blocks.specs.Chosen.{HasShortStrings, IsNameIndex};
 ghost use Rattle.header_blocks.specs.Encodes.{AddsRaw, AddsString, AddsLiteral, AddsField, AddsFields, AddsMaxima};
 ghost use Rattle.header_blocks.specs.Bounds.{IsBounded};
 
-use crate::limits::Due;
+use crate::limits::SizeUpdates;
 use crate::policy::Rules;
 use hpack_int::write;
 use hpack_table::{Field, Found, Table};
 use huffman::{encode, encoded_len};
 use std::alloc::{AllocError, Global};
 
-/// Writes a string (RFC 7541, section 5.2): as its Huffman text where that is to be taken and is shorter, else its octets as
-/// they are.
+/// Writes a string (RFC 7541, section 5.2): as its Huffman text where that is to be taken and is
+/// shorter, else its octets as they are.
 fn write_string(compress: bool, string: &[u8], out: &mut Vec<u8>) -> Result<(), AllocError>
     requires { length string.now ≤ 65536 }
     ensures ok { OnOk result (AddsString compress string.now out.old.items out.new.items) }
@@ -60,7 +60,8 @@ fn write_literal(
     requires most { prefix ≤ 8 }
     requires no_bit { mark % 2 ^ prefix ≡ 0 }
     requires short { HasShortStrings field.now }
-    ensures ok { OnOk result ((table : TableOfFields) → IsNameIndex table field.now.name index → AddsLiteral compress prefix (mark / 2 ^ prefix) table index field.now out.old.items out.new.items) }
+    ensures ok { OnOk result ((table : TableOfFields) → IsNameIndex table field.now.name index
+        → AddsLiteral compress prefix (mark / 2 ^ prefix) table index field.now out.old.items out.new.items) }
     ensures front { IsFront out.old.items out.new.items }
 {
     write(prefix, mark, index, out)?;
@@ -147,7 +148,7 @@ fn write_maximum(
 pub fn write_block(
     alloc: Global,
     rules: Rules,
-    due: Due,
+    due: SizeUpdates,
     table: &mut Table,
     fields: &[Field],
     out: &mut Vec<u8>,

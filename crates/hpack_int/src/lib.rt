@@ -1,5 +1,5 @@
-//! Integers of HPACK (RFC 7541, section 5.1): a prefix of some bits of an octet, and groups of seven bits where the value
-//! doesn't fit it.
+//! Integers of HPACK (RFC 7541, section 5.1): a prefix of some bits of an octet, and groups of
+//! seven bits where the value doesn't fit it.
 #![tactic(auto)]
 
 ghost use Rattle.std.specs.Prelude.{◌≡◌, ◌-◌, ◌≤◌, ◌%◌, ◌^◌, OnOk, OnErr};

@@ -25,7 +25,8 @@ step_from link hash place = if bucket link.hash == bucket hash then place + 1 + 
 -- No entry of a bucket is newer than the one that is noted, and none stands in the gap behind another one.
 pub record IsChained (newest : List ℕ) (added : ℕ) (links : List Link) : Type 0 where
   pub heads : (place : ℕ) (link : Link) → slice_get links place ≡ Some link → entries_since added (slice_get newest (bucket link.hash)) ≤ place
-  pub gaps : (place later : ℕ) (link other : Link) → slice_get links place ≡ Some link → slice_get links later ≡ Some other → place < later → bucket other.hash ≡ bucket link.hash → place + 1 + link.gap ≤ later
+  pub gaps : (place later : ℕ) (link other : Link) → slice_get links place ≡ Some link → slice_get links later ≡ Some other → place < later
+      → bucket other.hash ≡ bucket link.hash → place + 1 + link.gap ≤ later
 
 -- From a place to another one, no entry has the hash.
 pub record IsNextOfHash (hashes : List ℕ) (hash from place : ℕ) : Type 0 where

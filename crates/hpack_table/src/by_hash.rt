@@ -1,5 +1,5 @@
-//! Fields of the dynamic table, found by their hashes. Each that has the sought hash is compared, so that fields whose hashes
-//! are alike cost steps and no wrong answer.
+//! Fields of the dynamic table, found by their hashes. Each that has the sought hash is compared,
+//! so that fields whose hashes are alike cost steps and no wrong answer.
 
 ghost use Rattle.std.specs.Prelude.{◌≡◌, ◌<◌, ◌↔◌, length, IsTrue, MatchOption};
 ghost use Rattle.model.specs.Tables.{field_of};
@@ -14,8 +14,8 @@ use crate::index::{Index, hash_field};
 use crate::ring::Ring;
 use crate::table::FIRST_INDEX;
 
-/// The least index of an entry with the name and the value, of which the static table has none; where there is none, the
-/// least index of one with the name, as it was found in the static table.
+/// The least index of an entry with the name and the value, of which the static table has none;
+/// where there is none, the least index of one with the name, as it was found in the static table.
 pub fn find_by_hash(fields: &Ring, index: &Index, name: &[u8], value: &[u8], found: Found) -> Found
     requires seeks { Seeks (table_of fields.now) name.now value.now 62 found }
     requires few { length fields.now < 134217728 }

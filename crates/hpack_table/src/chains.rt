@@ -1,8 +1,9 @@
 //! Entries of a ring, found by their hashes.
 //!
-//! The entries of a bucket are chained from the newest on: its newest is noted by the number that it had when it was added,
-//! and each entry notes how many stand between it and the next one. So an entry that goes off the end of the ring changes
-//! nothing. Numbers go round. A chain that numbers of another time lead astray costs steps, and skips no entry.
+//! The entries of a bucket are chained from the newest on: its newest is noted by the number that
+//! it had when it was added, and each entry notes how many stand between it and the next one. So an
+//! entry that goes off the end of the ring changes nothing. Numbers go round. A chain that numbers
+//! of another time lead astray costs steps, and skips no entry.
 
 ghost use Rattle.std.specs.Prelude.{ℕ, List, ◌≡◌, ◌+◌, ◌<◌, ◌^◌, ◌==◌, ◌∷◌, [], length, take, slice_get, OnOk};
 ghost use Rattle.hpack_table.specs.Chaining.{IsChained, IsNextOfHash, bucket, hashes_of, step_from, entries_since, with_number};
@@ -143,7 +144,8 @@ fn step(link: &Link, hash: u64, place: usize) -> usize
 /// The place of the next entry with the hash from a place on, or one behind all entries, where all before the place are
 /// passed.
 fn next_of(links: &VecDeque<Link>, hash: u64, place: usize) -> usize
-    ensures { (newest : List ℕ) (added from : ℕ) → IsChained newest added links.now.items → IsNextOfHash (hashes_of links.now.items) hash from place → IsNextOfHash (hashes_of links.now.items) hash from result }
+    ensures { (newest : List ℕ) (added from : ℕ) → IsChained newest added links.now.items → IsNextOfHash (hashes_of links.now.items) hash from place
+        → IsNextOfHash (hashes_of links.now.items) hash from result }
 {
     let mut place = place;
     while let Some(link) = links.get(place) {

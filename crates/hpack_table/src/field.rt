@@ -72,8 +72,8 @@ impl Field {
         })
     }
 
-    /// What is left of the room for sizes behind this field; its size is the octets of its name, those of its value, and
-    /// 32 (RFC 7541, section 4.1). None where it doesn't fit.
+    /// What is left of the room for sizes behind this field; its size is the octets of its name,
+    /// those of its value, and 32 (RFC 7541, section 4.1). None where it doesn't fit.
     pub fn room_behind(&self, room: usize) -> Option<usize>
         ensures { SomeIff result (field_size self.now ≤ room) (room - field_size self.now) }
     {

@@ -31,7 +31,8 @@ pub fn met(
     name: &[u8],
     value: &[u8],
 ) -> Found
-    ensures { (table : Table) → look_up table index ≡ Some (field_of entry_name.now entry_value.now) → Seeks table name.now value.now index found → Met table name.now value.now (index + 1) result }
+    ensures { (table : Table) → look_up table index ≡ Some (field_of entry_name.now entry_value.now) → Seeks table name.now value.now index found
+        → Met table name.now value.now (index + 1) result }
 {
     if entry_name != name {
         return found;

@@ -60,10 +60,11 @@ impl Index {
     }
 }
 
-/// Adds a field as the newest to the index, where there is one. An `Err` says that memory was refused; then there is none any
-/// more.
+/// Adds a field as the newest to the index, where there is one. An `Err` says that memory was
+/// refused; then there is none any more.
 pub fn enter(index: &mut Option<Index>, field: &Field) -> Result<(), AllocError>
-    ensures ok { OnOk result ((fields : List FieldLine) → ForSome index.old (λ i. IsIndexOf i fields) → ForSome index.new (λ i. IsIndexOf i (field.now ∷ fields))) }
+    ensures ok { OnOk result ((fields : List FieldLine) → ForSome index.old (λ i. IsIndexOf i fields)
+        → ForSome index.new (λ i. IsIndexOf i (field.now ∷ fields))) }
     ensures err { OnErr result (index.new ≡ None) }
 {
     let Some(entered) = index else {

@@ -10,8 +10,8 @@ use std::marker::Model;
 /// How many fields the first block has room for.
 const FIRST_CAPACITY: usize = 8;
 
-/// A ring of fields in one block. The first insertion makes the block, and one that finds it full makes it larger. A clause sees
-/// the fields, the newest first.
+/// A ring of fields in one block. The first insertion makes the block, and one that finds it full
+/// makes it larger. A clause sees the fields, the newest first.
 #[derive(Drop)]
 pub struct Ring {
     /// None before the first insertion.
@@ -60,8 +60,8 @@ impl Ring {
         }
     }
 
-    /// Adds a field as the newest, and lets go of none. An `Err` says that memory was refused; it changes nothing and drops the
-    /// field.
+    /// Adds a field as the newest, and lets go of none. An `Err` says that memory was refused; it
+    /// changes nothing and drops the field.
     pub fn push_front(&mut self, field: Field) -> Result<(), AllocError>
         ensures ok { OnOk result (self.new ≡ field ∷ self.old) }
         ensures err { OnErr result (self.new ≡ self.old) }

@@ -78,8 +78,8 @@ static ENTRIES: [(&[u8], &[u8]); STATIC_LENGTH] = [
     (b"www-authenticate", b""),
 ];
 
-/// For each slot the place of the first entry whose name goes there, or the number of entries. Entries of one name stand
-/// together.
+/// For each slot the place of the first entry whose name goes there, or the number of entries.
+/// Entries of one name stand together.
 static STARTS: [u8; SLOTS] = [
     61, 31, 61, 61, 28, 54, 49, 47, 61, 61, 61, 61, 18, 61, 45, 24, 61, 32, 42, 61, 34, 61, 61, 30,
     57, 3, 61, 61, 61, 36, 16, 61, 15, 61, 61, 60, 61, 61, 61, 44, 37, 52, 61, 61, 61, 61, 53, 61,
@@ -142,7 +142,8 @@ fn value_of(name: &[u8], place: usize) -> Option<&'static [u8]>
     }
 }
 
-/// The least index of an entry of the static table with the name and the value; where there is none, of one with the name.
+/// The least index of an entry of the static table with the name and the value; where there is
+/// none, of one with the name.
 pub fn find_static(name: &[u8], value: &[u8]) -> Found
     ensures { Finds static_alone name.now value.now result }
 {

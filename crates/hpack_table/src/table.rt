@@ -37,7 +37,8 @@ impl Model for Table {
 
     ghost view = { λ table. record { fields = table.fields; maximum = table.maximum } };
 
-    ghost invariant = { λ table. (table.size ≡ total_size table.fields) × (table.size ≤ table.maximum) × (table.maximum < 2 ^ 32) × ForSome table.index (λ index. IsIndexOf index table.fields) };
+    ghost invariant = { λ table. (table.size ≡ total_size table.fields) × (table.size ≤ table.maximum) × (table.maximum < 2 ^ 32)
+        × ForSome table.index (λ index. IsIndexOf index table.fields) };
 }
 
 impl Table {
@@ -54,8 +55,8 @@ impl Table {
         }
     }
 
-    /// An empty table with this maximum, which finds its fields by their hashes. It takes more memory for each. Behind a
-    /// refusal it finds them by a walk.
+    /// An empty table with this maximum, which finds its fields by their hashes. It takes more
+    /// memory for each. Behind a refusal it finds them by a walk.
     pub fn with_index(alloc: Global, maximum: u32) -> Table
         ensures fields { result.fields ≡ [] }
         ensures maximum { result.maximum ≡ maximum }
@@ -91,8 +92,9 @@ impl Table {
         }
     }
 
-    /// Adds a field as the newest. The oldest go until all fit, and a field larger than the maximum empties the table (RFC
-    /// 7541, section 4.4). An `Err` says that memory was refused; it changes nothing and drops the field.
+    /// Adds a field as the newest. The oldest go until all fit, and a field larger than the maximum
+    /// empties the table (RFC 7541, section 4.4). An `Err` says that memory was refused; it changes
+    /// nothing and drops the field.
     pub fn add(&mut self, field: Field) -> Result<(), AllocError>
         ensures ok { OnOk result (self.new ≡ added field self.old) }
         ensures err { OnErr result (self.new ≡ self.old) }
@@ -123,7 +125,8 @@ impl Table {
         shorten(&mut self.index, self.fields.len());
     }
 
-    /// The least index of an entry with the name and the value; where there is none, the least index of one with the name.
+    /// The least index of an entry with the name and the value; where there is none, the least
+    /// index of one with the name.
     pub fn find(&self, name: &[u8], value: &[u8]) -> Found
         ensures { Finds self.now name.now value.now result }
     {
@@ -138,8 +141,8 @@ impl Table {
     }
 }
 
-/// The least index of an entry with the name and the value, of which the static table has none; where there is none, the
-/// least index of one with the name, as it was found in the static table.
+/// The least index of an entry with the name and the value, of which the static table has none;
+/// where there is none, the least index of one with the name, as it was found in the static table.
 fn find_added(fields: &Ring, name: &[u8], value: &[u8], found: Found) -> Found
     requires seeks { Seeks (table_of fields.now) name.now value.now 62 found }
     requires few { length fields.now < 134217728 }

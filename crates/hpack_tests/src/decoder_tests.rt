@@ -131,7 +131,8 @@ fn blocks_share_a_table(rt: HostRuntime) {
     assert_eq!(rt; first_that_differs(rt.alloc(), &steps), None);
 }
 
-/// Behind these blocks a maximum of the table's size keeps all its entries, and one less drops the oldest: the sizes are 57, 110 and 164.
+/// Behind these blocks a maximum of the table's size keeps all its entries, and one less drops the
+/// oldest: the sizes are 57, 110 and 164.
 static SIZE_BEHIND_FIRST: [Step<'static>; 3] = [
     (FIRST, 16384, Wanted::Fields(FIRST_FIELDS)),
     (b"\x3f\x1a\xbe", 16384, Wanted::Fields(&[AUTHORITY])),
@@ -232,8 +233,8 @@ fn stretched(alloc: Global, front: &[u8], octet: u8, count: usize) -> Result<Vec
     Ok(octets)
 }
 
-// A literal that is inserted, with the name `a` and a value of 4,000 octets, and then its index 60,000 times: none of the
-// fields is kept, and the table is the next one.
+// A literal that is inserted, with the name `a` and a value of 4,000 octets, and then its index
+// 60,000 times: none of the fields is kept, and the table is the next one.
 #[test]
 fn many_indices_of_a_long_field_are_too_large(rt: HostRuntime) -> Result<(), Fail> {
     let alloc = rt.alloc();

@@ -170,8 +170,8 @@ const DATE: Line<'static> = (b"date", b"Mon, 21 Oct 2013 20:13:21 GMT");
 
 const LOCATION: Line<'static> = (b"location", b"https://www.example.com");
 
-/// RFC 7541, appendix C.6: responses over a table of 256 octets. The standard's example takes Huffman text for `307` too,
-/// which isn't shorter.
+/// RFC 7541, appendix C.6: responses over a table of 256 octets. The standard's example takes
+/// Huffman text for `307` too, which isn't shorter.
 static RESPONSES: [Step<'static>; 4] = [
     Step::Limit(256),
     Step::Block(
@@ -214,7 +214,8 @@ fn responses_with_huffman_text(rt: HostRuntime) -> Result<(), Fail> {
 /// Limits, and the block of `x-a: 1` behind them.
 type Row<'a> = (&'a [u32], &'a [u8]);
 
-/// Of the limits since the last block the least and the last are announced (RFC 7541, section 4.2). The field has the size 36.
+/// Of the limits since the last block the least and the last are announced (RFC 7541, section 4.2).
+/// The field has the size 36.
 static LIMITS: [Row<'static>; 8] = [
     (&[], b"\x40\x03x-a\x011"),
     (&[4096], b"\x40\x03x-a\x011"),

@@ -151,7 +151,8 @@ fn are_alike(
     Ok(alike)
 }
 
-/// The first of so many random fields that tables with an index and without one don't find alike, as they fill up and let go.
+/// The first of so many random fields that tables with an index and without one don't find alike,
+/// as they fill up and let go.
 fn first_found_otherwise(alloc: Global, numbers: u32) -> Result<Option<u32>, AllocError> {
     let mut walked = Table::new(alloc, 200);
     let mut indexed = Table::with_index(alloc, 200);

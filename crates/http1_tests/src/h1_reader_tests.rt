@@ -71,7 +71,8 @@ fn trailers_are_taken_out(rt: HostRuntime) -> Result<(), Fail> {
     Ok(())
 }
 
-/// Whether the trailers of these names and values are taken out of a text: its last pieces are a body, trailers and the end.
+/// Whether the trailers of these names and values are taken out of a text: its last pieces are a
+/// body, trailers and the end.
 fn are_trailers_taken_out(alloc: Global, text: &[u8], wanted: &[Line<'_>]) -> bool {
     let mut reader = Reader::new(alloc, false);
     let mut pieces = Vec::new(alloc);

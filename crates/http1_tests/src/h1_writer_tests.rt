@@ -95,7 +95,8 @@ fn first_written_otherwise(alloc: Global, rows: &[Row]) -> Result<Option<usize>,
     Ok(None)
 }
 
-/// A declared body keeps its last octet, a declared empty body keeps the head open, and an undeclared one goes in chunks.
+/// A declared body keeps its last octet, a declared empty body keeps the head open, and an
+/// undeclared one goes in chunks.
 static STEPS: [Row; 3] = [
     (
         b":method=POST|:scheme=http|:path=/|:authority=www.example.com|content-length=005",

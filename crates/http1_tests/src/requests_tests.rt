@@ -2,12 +2,12 @@
 
 ghost use Rattle.std.specs.Prelude.{◌≡◌, None, false, IfOk};
 ghost use Rattle.request_rules.specs.Heads.{HeadParts};
-ghost use Rattle.requests.specs.Beginning.{IsBegun};
+ghost use Rattle.request_buffer.specs.Beginning.{IsBegun};
 
 use crate::lines::push_fields;
 use hpack_table::Field;
+use request_buffer::{Begun, BufferedRequest, begin};
 use request_rules::{RequestHead, check_head};
-use requests::{Begun, Waiting, begin};
 use std::alloc::{AllocError, Global};
 use std::process::Abort;
 use std::test::*;
@@ -59,7 +59,7 @@ fn a_request_says_nothing_of_a_close_where_its_connection_is_kept(
 }
 
 /// A request that declares no length and waits for its body.
-fn waiting(alloc: Global, rt: &impl Abort) -> Result<Waiting, Fail>
+fn waiting(alloc: Global, rt: &impl Abort) -> Result<BufferedRequest, Fail>
     ensures { IfOk result (λ request. (parts : HeadParts) × (parts.length ≡ None) × IsBegun false parts false 7 (Begun.Waits request)) }
 {
     let head = head_of(alloc, rt, POST, false)?;

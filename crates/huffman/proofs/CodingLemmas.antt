@@ -9,7 +9,7 @@ use Rattle.huffman.specs.Waiting.{IsPadded, Flushes, pending_bits}
 use Rattle.huffman.specs.Encoding.{Encodes, IsWordOf, word_bits}
 use Rattle.huffman.specs.Decoding.{Adds}
 use Rattle.huffman.specs.declared.pending.Pending.{Pending}
-use Rattle.huffman.specs.declared.words.Word.{Word}
+use Rattle.huffman.specs.declared.words.BitWord.{BitWord}
 use Rattle.huffman.proofs.BitLemmas.{length_bits}
 use Rattle.huffman.proofs.DecodeLemmas.{codes_more}
 
@@ -40,7 +40,7 @@ take_more [] i h = absurd (omega arith)
 take_more (octet ∷ string) zero h = refl
 take_more (octet ∷ string) (suc i) h = let far : suc i + 1 ≡ suc (i + 1) = omega arith in rw far (ap (λ t. octet ∷ t) (take_more string i (omega arith)))
 
-pub coding_more : (string : List ℕ) (i : ℕ) (pending all rest : Pending) (word : Word) (old mid new : List ℕ) → i < length string → get_or string i 0 < 256 → Coding (take i string) pending old mid
+pub coding_more : (string : List ℕ) (i : ℕ) (pending all rest : Pending) (word : BitWord) (old mid new : List ℕ) → i < length string → get_or string i 0 < 256 → Coding (take i string) pending old mid
     → IsWordOf (get_or string i 0) word → pending_bits all ≡ pending_bits pending ++ word_bits word → Flushes all rest mid new → rest.width < 32 → Coding (take (i + 1) string) rest old new
 coding_more string i pending all rest word old mid new h small c w is f few = record {
   octets = c.octets ++ f.octets;
@@ -120,7 +120,7 @@ split_last (first ∷ string) coded octet p =
     let rest = split_last string p.1 octet p.5 in
     (p.0 ++ rest.0, rest.1, (p.0, rest.0, p.2, p.3, refl, rest.2), rest.3, p.4 ∙ ap (λ m. p.0 ++ m) rest.4 ∙ sym (append_assoc p.0 rest.0 rest.1))
 
-pub counting_more : (string : List ℕ) (i count : ℕ) (word : Word) → i < length string → Counting (take i string) count → IsWordOf (get_or string i 0) word → Counting (take (i + 1) string) (count + word.width)
+pub counting_more : (string : List ℕ) (i count : ℕ) (word : BitWord) → i < length string → Counting (take i string) count → IsWordOf (get_or string i 0) word → Counting (take (i + 1) string) (count + word.width)
 counting_more string i count word h c w = record {
   counts = λ coded p.
       let parts = split_last (take i string) coded (get_or string i 0) (subst (AreCodes coded) (take_more string i h) p) in

@@ -1,7 +1,7 @@
 -- What encoding gives.
 use Rattle.std.specs.Prelude.{◌≡◌, ℕ, ◌^◌, ◌<◌, ◌≤◌, List, ◌++◌}
 use Rattle.model.specs.Huffman.{bits, IsCode, Huff}
-use Rattle.huffman.specs.declared.words.Word.{Word}
+use Rattle.huffman.specs.declared.words.BitWord.{BitWord}
 
 -- Huffman text of the string is added at the end.
 pub record Encodes (string old new : List ℕ) : Type 0 where
@@ -10,11 +10,11 @@ pub record Encodes (string old new : List ℕ) : Type 0 where
   pub huffman : Huff text string
 
 -- the bits of a word
-abbrev pub word_bits : Word → List ℕ
+abbrev pub word_bits : BitWord → List ℕ
 word_bits word = bits word.width word.number
 
 -- The word is the code of the octet.
-pub record IsWordOf (octet : ℕ) (word : Word) : Type 0 where
+pub record IsWordOf (octet : ℕ) (word : BitWord) : Type 0 where
   pub is_code : IsCode octet (word_bits word)
   pub number : word.number < 2 ^ word.width
   pub wide : word.width ≤ 30

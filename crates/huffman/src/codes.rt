@@ -1,6 +1,7 @@
-//! The code at the front of bits. The code is complete: whatever 30 bits there are, one code begins them. So bits that wait
-//! are filled up with zeros, and what begins these is looked up: a code of at most eight bits by its first eight, at one step,
-//! and a longer one by the 17 widths that it may have.
+//! The code at the front of bits. The code is complete: whatever 30 bits there are, one code begins
+//! them. So bits that wait are filled up with zeros, and what begins these is looked up: a code of
+//! at most eight bits by its first eight, at one step, and a longer one by the 17 widths that it
+//! may have.
 
 ghost use Rattle.std.specs.Prelude.{◌≡◌, ◌*◌, ◌^◌, ◌<◌, ◌≤◌, nat_lt, slice_get, IfSome, IfNone};
 ghost use Rattle.std.specs.List.{find};

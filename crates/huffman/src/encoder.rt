@@ -22,8 +22,8 @@ pub fn encoded_len(string: &[u8]) -> usize
     (bits + 7) / 8
 }
 
-/// Adds the Huffman text of a string of at most 65,536 octets (RFC 7541, section 5.2). An `Err` says that memory was refused,
-/// and leaves the octets of `out` as they were.
+/// Adds the Huffman text of a string of at most 65,536 octets (RFC 7541, section 5.2). An `Err`
+/// says that memory was refused, and leaves the octets of `out` as they were.
 pub fn encode(string: &[u8], out: &mut Vec<u8>) -> Result<(), AllocError>
     requires { length string.now ≤ 65536 }
     ensures ok { OnOk result (Encodes string.now out.old.items out.new.items) }

@@ -1,8 +1,9 @@
 //! The Huffman code of HPACK (RFC 7541, section 5.2 and appendix B).
 //!
-//! Both ways are linear in the octets, whatever they are. Decoding looks a whole code up at a step: one of at most eight bits
-//! in a table of the eight bits that come, and a longer one among the 17 widths that it may have. Encoding appends an octet's
-//! code as one number, and puts four octets out at once; room for a text no longer than its string is made once.
+//! Both ways are linear in the octets, whatever they are. Decoding looks a whole code up at a step:
+//! one of at most eight bits in a table of the eight bits that come, and a longer one among the 17
+//! widths that it may have. Encoding appends an octet's code as one number, and puts four octets
+//! out at once; room for a text no longer than its string is made once.
 #![tactic(auto)]
 
 mod codes;

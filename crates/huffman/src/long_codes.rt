@@ -1,7 +1,7 @@
 //! The codes of more than eight bits.
 
-/// The codes of each width, in their order: the width, the first window past those that begin with them, and by how much
-/// their numbers are above their places. A window has 38 bits.
+/// The codes of each width, in their order: the width, the first window past those that begin with
+/// them, and by how much their numbers are above their places. A window has 38 bits.
 pub static ROWS: [(u32, u64, u64); 17] = [
     (10, 0x3f_d000_0000, 1016),
     (11, 0x3f_e800_0000, 2037),

@@ -5,7 +5,7 @@ ghost use Rattle.model.specs.Huffman.{bits};
 ghost use Rattle.huffman.specs.Encoding.{word_bits};
 ghost use Rattle.huffman.specs.Waiting.{pending_bits};
 
-use crate::words::Word;
+use crate::words::BitWord;
 
 /// Bits that wait: so many low bits of a number.
 #[derive(Clone, Copy)]
@@ -21,7 +21,7 @@ pub const NOTHING: Pending = Pending {
 };
 
 /// The bits that wait, and those of a word behind them.
-pub fn append(pending: Pending, word: Word) -> Pending
+pub fn append(pending: Pending, word: BitWord) -> Pending
     requires waiting { pending.number < 2 ^ pending.width }
     requires few { pending.width < 32 }
     requires word { word.number < 2 ^ word.width }

@@ -5,7 +5,7 @@ ghost use Rattle.huffman.specs.Encoding.{IsWordOf};
 
 /// Bits that belong together, as those of a code or of an octet: so many low bits of a number.
 #[derive(Clone, Copy)]
-pub struct Word {
+pub struct BitWord {
     pub number: u32,
     pub width: u8,
 }
@@ -279,9 +279,9 @@ fn word_at(words: &[(u32, u8)], octet: u8) -> (u32, u8)
 }
 
 /// The code of an octet.
-pub fn word_of(octet: u8) -> Word
+pub fn word_of(octet: u8) -> BitWord
     ensures { IsWordOf octet result }
 {
     let (number, width) = word_at(&WORDS, octet);
-    Word { number, width }
+    BitWord { number, width }
 }

@@ -9,7 +9,7 @@ use Rattle.model.specs.Tapes.Entry.{Came, Breached, Happened, Sent, Did}
 use Rattle.model.specs.Decoding.{completed}
 use Rattle.model.specs.Limits.{most_streams}
 use Rattle.model.specs.Known.{Known}
-use Rattle.model.specs.Lifetimes.{opened, opens_by, ends_by, active, is_opened, is_over, is_active, is_spent, is_ended_by_client, is_ended_by_gateway, is_reset_by_client, is_reset_by_gateway}
+use Rattle.model.specs.Lifetimes.{opened, opens_by, ends_by, active, is_opened, is_over, is_active, is_exhausted, is_ended_by_client, is_ended_by_gateway, is_reset_by_client, is_reset_by_gateway}
 use Rattle.model.specs.ErrorClause.{is_calming, calls_for_end, must_end}
 
 -- ---- streams that are over
@@ -96,7 +96,7 @@ none_left p q fewer (id ∷ ids) none = by (none_left p q fewer ids) (p id) (q i
 
 -- a connection that is to end still is when a frame is sent
 pub ends_sent : (known : Known) (t : List Entry) (noted : Noted) → must_end known t ≡ true → must_end known (Sent noted ∷ t) ≡ true
-ends_sent known t noted ends = by (is_calming noted.frame) (calls_for_end known t) (is_spent t) (is_spent (Sent noted ∷ t)) spent ends
+ends_sent known t noted ends = by (is_calming noted.frame) (calls_for_end known t) (is_exhausted t) (is_exhausted (Sent noted ∷ t)) exhausted ends
   where
     by : (x a b c : Bool) → (b ≡ true → c ≡ true) → (a || b) ≡ true → (x || a || c) ≡ true
     by true a b c more e = refl
@@ -109,8 +109,8 @@ ends_sent known t noted ends = by (is_calming noted.frame) (calls_for_end known 
       | inr goes_on ↦ ap not goes_on
     ]
 
-    spent : is_spent t ≡ true → is_spent (Sent noted ∷ t) ≡ true
-    spent e =
+    exhausted : is_exhausted t ≡ true → is_exhausted (Sent noted ∷ t) ≡ true
+    exhausted e =
         let parts = and_parts (length (opened t) == most_streams) (length (active t) == 0) e in
         and_from (length (opened t) == most_streams) (length (active (Sent noted ∷ t)) == 0) parts.0
         (eq-eqb (length (active (Sent noted ∷ t))) 0 (none_left (λ id. not (is_over id t)) (λ id. not (is_over id (Sent noted ∷ t))) going (opened t) (eqb-true (length (active t)) 0 parts.1)))

@@ -1,5 +1,5 @@
 -- What calls for nothing: acts, and the frames that are sent beside responses. And what an error of the connection calls for
--- beside its farewell: nothing.
+-- beside its GOAWAY: nothing.
 use Rattle.std.proofs.Common.{◌≡◌, ℕ, Bool, true, false, not, ◌&&◌, ◌||◌, ◌==◌, nat_lt, if◌then◌else◌, List, [], ◌∷◌, ◌++◌, length, Option, Some, None, refl, sym, ◌∙◌, ap, arith, inl, inr}
 use Rattle.std.proofs.lemmas.Bool.{or_parts, and_left, and_right, le-ltb}
 use Rattle.std.proofs.lemmas.Bool.Decides.{eqb_tells}
@@ -17,9 +17,9 @@ use Rattle.model.proofs.OpenedLaws.{not_opened}
 use Rattle.model.specs.Lifetimes.{may_open, opened, highest, ends_by, is_ended_by_client}
 use Rattle.model.specs.Causes.{Cause}
 use Rattle.model.specs.Courses.{Course, course, about, fault, new_cause, first_of_both}
-use Rattle.model.specs.ErrorClause.{last_farewell, acks, reset_for, resets, reset_behind, rst_stream, owed_by, is_passing}
+use Rattle.model.specs.ErrorClause.{last_goaway, acks, reset_for, resets, reset_behind, rst_stream, owed_by, is_passing}
 
--- ---- no farewell for want of streams
+-- ---- no GOAWAY for want of streams
 
 -- a number below another isn't that other
 pub neither : (n m : ℕ) → (nat_lt n m && n == m) ≡ false
@@ -28,9 +28,9 @@ neither n m = elim (eqb_tells n m) [
   | inr x ↦ and_right (nat_lt n m) (n == m) x.0
 ]
 
--- an entry that opens no stream calls for no last farewell
-pub no_farewell : (t : List Entry) (e : Entry) → opened (e ∷ t) ≡ opened t → last_farewell t e ≡ []
-no_farewell t e same =
+-- an entry that opens no stream calls for no last GOAWAY
+pub no_goaway : (t : List Entry) (e : Entry) → opened (e ∷ t) ≡ opened t → last_goaway t e ≡ []
+no_goaway t e same =
     ap (λ ids. if nat_lt (length (opened t)) most_streams && length ids == most_streams then goaway (highest (e ∷ t)) no_error ∷ [] else []) same
     ∙ ap (λ b. if b then goaway (highest (e ∷ t)) no_error ∷ [] else []) (neither (length (opened t)) most_streams)
 
@@ -53,7 +53,7 @@ no_reset known t e none =
 
 pub did_nothing : (known : Known) (t : List Entry) (act : Act) → owed_by known t (Did act) ≡ []
 did_nothing known t act =
-    ap (λ first. first ++ (resets known 0 t (Did act) ++ [])) (no_farewell t (Did act) refl)
+    ap (λ first. first ++ (resets known 0 t (Did act) ++ [])) (no_goaway t (Did act) refl)
     ∙ ap (λ fs. fs ++ []) (no_reset known t (Did act) refl)
 
 -- ---- frames beside responses
@@ -77,7 +77,7 @@ nothing_behind t noted control =
 -- a frame beside responses calls for nothing
 pub control_owes_nothing : (known : Known) (t : List Entry) (noted : Noted) → is_passing noted ≡ false → owed_by known t (Sent noted) ≡ []
 control_owes_nothing known t noted control =
-    ap (λ first. first ++ (resets known 0 t (Sent noted) ++ reset_behind t (Sent noted))) (no_farewell t (Sent noted) refl)
+    ap (λ first. first ++ (resets known 0 t (Sent noted) ++ reset_behind t (Sent noted))) (no_goaway t (Sent noted) refl)
     ∙ ap (λ fs. fs ++ reset_behind t (Sent noted)) (no_reset known t (Sent noted) refl)
     ∙ nothing_behind t noted control
 
@@ -95,7 +95,7 @@ acks_none (Did act) fault = refl
 abbrev pub later_owed : Known → List Entry → Entry → Option Fault → List Frame
 later_owed known t e found = acks e found ++ (resets known (about t e) t e ++ reset_behind t e)
 
--- behind an error of the connection, nothing but its farewell is called for
+-- behind an error of the connection, nothing but its GOAWAY is called for
 pub nothing_besides : (known : Known) (t : List Entry) (e : Entry) (code : ℕ) → new_cause known (about t e) t e (course known (about t e) t) (fault known t e) ≡ None → reset_behind t e ≡ [] → later_owed known t e (Some (Connection code)) ≡ []
 nothing_besides known t e code no_cause none =
     ap (λ fs. fs ++ (resets known (about t e) t e ++ reset_behind t e)) (acks_none e (Connection code))

@@ -1,6 +1,7 @@
 -- What becomes of a stream: its items, and why the gateway answers it itself, if it does (RFC 9113, sections 5.1 and 8.1): a
 -- search over the tape.
-use Rattle.std.specs.Prelude.{ℕ, ◌+◌, Bool, false, ◌&&◌, ◌||◌, ◌==◌, nat_lt, if◌then◌else◌, List, [], ◌∷◌, ◌++◌, length, Option, Some, None, is_some, nat_le, codes}
+use Rattle.std.specs.Prelude.{ℕ, ◌+◌, Bool, false, ◌&&◌, ◌||◌, ◌==◌, nat_lt, if◌then◌else◌, List, [], ◌∷◌, ◌++◌}
+use Rattle.std.specs.Prelude.{length, Option, Some, None, is_some, nat_le, codes}
 use Rattle.std.specs.Str.Parse.{digits_value}
 use Rattle.std.specs.List.{list_any}
 use Rattle.model.specs.Messages.{Item, ends_with}

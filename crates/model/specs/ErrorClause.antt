@@ -1,10 +1,13 @@
 -- The clause on errors: which frames the gateway sends beside its responses and the octets that it gives back, and when it ends
 -- the connection (RFC 9113, sections 3.4, 5.4, 6.4, 6.5, 6.7 and 6.8). What is owed is read off the tape, and what was sent is
 -- just that: always there, in its order, and nothing else.
-use Rattle.std.specs.Prelude.{◌≡◌, ℕ, Bool, true, false, not, ◌&&◌, ◌||◌, ◌==◌, ◌⊎◌, nat_lt, if◌then◌else◌, List, [], ◌∷◌, ◌++◌, length, drop, bytes_eq, map, filter, reverse, Option, Some, None}
+use Rattle.std.specs.Prelude.{◌≡◌, ℕ, Bool, true, false, not, ◌&&◌, ◌||◌, ◌==◌, ◌⊎◌, nat_lt, if◌then◌else◌, List, []}
+use Rattle.std.specs.Prelude.{◌∷◌, ◌++◌, length, drop, bytes_eq, map, filter, reverse, Option, Some, None}
 use Rattle.std.specs.List.{list_any}
 use Rattle.model.specs.Octets.{is_empty}
-use Rattle.model.specs.Frames.{Frame, data_kind, headers_kind, rst_stream_kind, ping_kind, goaway_kind, window_update_kind, continuation_kind, is_ack, ends_stream, ends_headers, spell_number, settings_frame, settings_ack, goaway, no_error, enhance_your_calm}
+use Rattle.model.specs.Frames.{Frame, data_kind, headers_kind, rst_stream_kind, ping_kind, goaway_kind}
+use Rattle.model.specs.Frames.{window_update_kind, continuation_kind, is_ack, ends_stream, ends_headers, spell_number}
+use Rattle.model.specs.Frames.{settings_frame, settings_ack, goaway, no_error, enhance_your_calm}
 use Rattle.model.specs.Payloads.{number_field}
 use Rattle.model.specs.Logs.Event.{ClientEnd}
 use Rattle.model.specs.Tapes.{Noted, Entry, sent, is_closed}
@@ -15,7 +18,7 @@ use Rattle.model.specs.Decoding.{completed}
 use Rattle.model.specs.Errors.{Fault}
 use Rattle.model.specs.Errors.Fault.{Connection, Stream}
 use Rattle.model.specs.Known.{Known}
-use Rattle.model.specs.Lifetimes.{highest, opens_last, ends_by, is_ended_by_client, is_ended_by_gateway, is_active, is_spent}
+use Rattle.model.specs.Lifetimes.{highest, opens_last, ends_by, is_ended_by_client, is_ended_by_gateway, is_active, is_exhausted}
 use Rattle.model.specs.WindowsOnTape.{has_settings, increment}
 use Rattle.model.specs.Causes.{Cause, reset_code}
 use Rattle.model.specs.Courses.{course, about, fault}
@@ -29,23 +32,23 @@ rst_stream stream code = record { kind = rst_stream_kind; flags = 0; id = stream
 abbrev pub ping_ack : List ℕ → Frame
 ping_ack octets = record { kind = ping_kind; flags = 1; id = 0; payload = octets }
 
--- the farewell that the last stream calls for which a connection may have: an entry opens it
-abbrev pub last_farewell : List Entry → Entry → List Frame
-last_farewell t e =
+-- the GOAWAY that the last stream calls for which a connection may have: an entry opens it
+abbrev pub last_goaway : List Entry → Entry → List Frame
+last_goaway t e =
     if opens_last t e
     then goaway (highest (e ∷ t)) no_error ∷ []
     else []
 
--- The code of the farewell of an error: where too many octets are untaken it asks the client to be calm, whatever the error is.
-abbrev pub code_of_farewell : List Entry → ℕ → ℕ
-code_of_farewell t code = if is_crowded t then enhance_your_calm else code
+-- The code of the GOAWAY of an error: where too many octets are untaken it asks the client to be calm, whatever the error is.
+abbrev pub code_of_goaway : List Entry → ℕ → ℕ
+code_of_goaway t code = if is_crowded t then enhance_your_calm else code
 
--- What an entry calls for before all else: that farewell, and by its fault the reset of its stream, or the farewell with the
+-- What an entry calls for before all else: that GOAWAY, and by its fault the reset of its stream, or the GOAWAY with the
 -- highest stream that was opened, with the entry.
 abbrev pub owed_first : List Entry → Entry → Option Fault → List Frame
-owed_first t e (Some (Connection code)) = goaway (highest (e ∷ t)) (code_of_farewell t code) ∷ []
-owed_first t e (Some (Stream code)) = last_farewell t e ++ rst_stream (about t e) code ∷ []
-owed_first t e _ = last_farewell t e
+owed_first t e (Some (Connection code)) = goaway (highest (e ∷ t)) (code_of_goaway t code) ∷ []
+owed_first t e (Some (Stream code)) = last_goaway t e ++ rst_stream (about t e) code ∷ []
+owed_first t e _ = last_goaway t e
 
 -- the acknowledgement of settings, and the answer to a PING, that are no error
 abbrev pub acks : Entry → Option Fault → List Frame
@@ -95,11 +98,11 @@ abbrev pub is_fatal : Option Fault → Bool
 is_fatal (Some (Connection code)) = true
 is_fatal _ = false
 
--- a farewell that asks the client to be calm (section 7)
+-- a GOAWAY that asks the client to be calm (section 7)
 abbrev pub is_calming : Frame → Bool
 is_calming frame = frame.kind == goaway_kind && bytes_eq (drop 4 frame.payload) (spell_number enhance_your_calm)
 
--- The last that came in calls for the end: the client has gone, or an error of the connection. Or the gateway sent such a farewell in place of
+-- The last that came in calls for the end: the client has gone, or an error of the connection. Or the gateway sent such a GOAWAY in place of
 -- another frame.
 abbrev pub calls_for_end : Known → List Entry → Bool
 calls_for_end known [] = false
@@ -121,11 +124,11 @@ is_passing noted =
 abbrev pub controls : List Noted → List Frame
 controls frames = map (λ noted. noted.frame) (filter (λ noted. not (is_passing noted)) frames)
 
--- A farewell that asks the client to be calm stands in place of another frame: nothing before it calls for the end.
+-- A GOAWAY that asks the client to be calm stands in place of another frame: nothing before it calls for the end.
 abbrev pub stands_in : Known → List Entry → Noted → Bool
 stands_in known t noted = is_calming noted.frame && not (calls_for_end known t)
 
--- What all entries call for, the newest first: the gateway's settings come before anything else. Behind a farewell that stands in place of another
+-- What all entries call for, the newest first: the gateway's settings come before anything else. Behind a GOAWAY that stands in place of another
 -- frame nothing is called for any more but what was sent.
 abbrev pub owed : Known → List Entry → List Frame
 owed known [] = settings_frame ∷ []
@@ -136,7 +139,7 @@ owed known (Sent noted ∷ t) =
     if stands_in known t noted then noted.frame ∷ controls (sent t) else reverse (owed_by known t (Sent noted)) ++ owed known t
 owed known (Did act ∷ t) = reverse (owed_by known t (Did act)) ++ owed known t
 
--- A farewell that asks the client to be calm stands in place of what an entry calls for before all else, or of the rest of that; it is the last frame.
+-- A GOAWAY that asks the client to be calm stands in place of what an entry calls for before all else, or of the rest of that; it is the last frame.
 pub record IsCutShort (frames first : List Frame) : Type 0 where
   pub last : Frame
   pub calming : is_calming last ≡ true
@@ -158,17 +161,17 @@ AreFollowed known frames (Sent noted ∷ t) = AreFollowed known (frames ++ noted
 AreFollowed known frames (e ∷ t) =
     IsFollowed frames (owed_first t e (fault known t e)) (fault known t e) × AreFollowed known frames t
 
--- the last farewell that the newest entry calls for
-abbrev pub newest_farewell : List Entry → List Frame
-newest_farewell [] = []
-newest_farewell (e ∷ t) = last_farewell t e
+-- the last GOAWAY that the newest entry calls for
+abbrev pub newest_goaway : List Entry → List Frame
+newest_goaway [] = []
+newest_goaway (e ∷ t) = last_goaway t e
 
--- No act stands right behind the entry that opens the last stream. So the farewell does, before all that the stream's head causes
+-- No act stands right behind the entry that opens the last stream. So the GOAWAY does, before all that the stream's head causes
 -- (section 6.8).
-abbrev pub FarewellsComeFirst : List Entry → Type 0
-FarewellsComeFirst [] = Unit {0}
-FarewellsComeFirst (Did act ∷ t) = (newest_farewell t ≡ []) × FarewellsComeFirst t
-FarewellsComeFirst (_ ∷ t) = FarewellsComeFirst t
+abbrev pub GoawaysComeFirst : List Entry → Type 0
+GoawaysComeFirst [] = Unit {0}
+GoawaysComeFirst (Did act ∷ t) = (newest_goaway t ≡ []) × GoawaysComeFirst t
+GoawaysComeFirst (_ ∷ t) = GoawaysComeFirst t
 
 -- The flags that a type is sent with: END_STREAM and END_HEADERS where it has them, and no other. The gateway pads nothing and
 -- gives no priority (sections 6.1, 6.2, 6.9 and 6.10).
@@ -212,13 +215,13 @@ AreRightlySent (_ ∷ t) = AreRightlySent t
 
 -- ---- floods
 
--- The farewell stands in place of a frame that would go out while too many octets are untaken, and names the highest stream that was opened.
+-- The GOAWAY stands in place of a frame that would go out while too many octets are untaken, and names the highest stream that was opened.
 pub record StandsInPlace (t : List Entry) (frame : Frame) : Type 0 where
   pub crowded : is_crowded t ≡ true
-  pub farewell : frame ≡ goaway (highest t) enhance_your_calm
+  pub goaway : frame ≡ goaway (highest t) enhance_your_calm
 
--- While too many octets are untaken nothing goes out but parts of responses (octets aren't given back then, see `is_given_back`) and a farewell that
--- asks the client to be calm; and such a farewell stands in place of another frame nowhere else.
+-- While too many octets are untaken nothing goes out but parts of responses (octets aren't given back then, see `is_given_back`) and a GOAWAY that
+-- asks the client to be calm; and such a GOAWAY stands in place of another frame nowhere else.
 pub record IsCalm (known : Known) (t : List Entry) (noted : Noted) : Type 0 where
   pub uncrowded : is_crowded t ≡ true → (is_passing noted || is_calming noted.frame) ≡ true
   pub in_place : stands_in known t noted ≡ true → StandsInPlace t noted.frame
@@ -232,7 +235,7 @@ AreCalm known (_ ∷ t) = AreCalm known t
 
 -- The connection is to end: so, or since no stream is left, nor may one be opened.
 abbrev pub must_end : Known → List Entry → Bool
-must_end known t = calls_for_end known t || is_spent t
+must_end known t = calls_for_end known t || is_exhausted t
 
 -- Nothing comes in where the connection is to end.
 abbrev pub EndsInTime : Known → List Entry → Type 0
@@ -242,13 +245,13 @@ EndsInTime known (Did act ∷ t) = EndsInTime known t
 EndsInTime known (e ∷ t) = (must_end known t ≡ false) × EndsInTime known t
 
 -- The first frame is the gateway's settings. Beside parts of responses and octets given back, just what is owed was sent, and
--- what an entry calls for before all else came next; the farewell of the last stream came before any act. The client is closed just
+-- what an entry calls for before all else came next; the GOAWAY of the last stream came before any act. The client is closed just
 -- where the connection is to end.
 pub record ErrorsHold (known : Known) (t : List Entry) : Type 0 where
   pub begins : (newer : List Frame) × (map (λ noted. noted.frame) (sent t) ≡ newer ++ settings_frame ∷ [])
   pub just_owed : controls (sent t) ≡ owed known t
   pub followed : AreFollowed known [] t
-  pub farewell_first : FarewellsComeFirst t
+  pub goaway_first : GoawaysComeFirst t
   pub rightly_sent : AreRightlySent t
   pub calm : AreCalm known t
   pub closed : is_closed t ≡ must_end known t

@@ -1,9 +1,11 @@
 -- The error table: what an entry of the tape is answered with that isn't as it should be (RFC 9113, section 5.4). Each case is a
 -- row of its own, and the first row that applies decides. DATA, RST_STREAM and WINDOW_UPDATE are judged when they came, and
 -- HEADERS when the header block that they begin is whole. Another case is another row.
-use Rattle.std.specs.Prelude.{ℕ, Bool, true, false, not, ◌&&◌, ◌||◌, ◌==◌, nat_le, if◌then◌else◌, List, [], ◌∷◌, ◌++◌, length, Option, Some, None, option_map, ℤ, pos, ◌+ℤ◌, int_lt}
+use Rattle.std.specs.Prelude.{ℕ, Bool, true, false, not, ◌&&◌, ◌||◌, ◌==◌, nat_le, if◌then◌else◌, List, [], ◌∷◌, ◌++◌}
+use Rattle.std.specs.Prelude.{length, Option, Some, None, option_map, ℤ, pos, ◌+ℤ◌, int_lt}
 use Rattle.model.specs.Limits.{most_resets}
-use Rattle.model.specs.Frames.{Frame, data_kind, headers_kind, rst_stream_kind, window_update_kind, ends_stream, content, protocol_error, flow_control_error, compression_error, enhance_your_calm}
+use Rattle.model.specs.Frames.{Frame, data_kind, headers_kind, rst_stream_kind, window_update_kind, ends_stream}
+use Rattle.model.specs.Frames.{content, protocol_error, flow_control_error, compression_error, enhance_your_calm}
 use Rattle.model.specs.Tapes.{Note, Noted, Entry, came}
 use Rattle.model.specs.Tapes.Note.{Fields, Undecodable}
 use Rattle.model.specs.Tapes.Entry.{Came}
@@ -150,11 +152,11 @@ abbrev pub row_refused : List Entry → Entry → Option Fault
 row_refused t (Came noted) = fault_by_standing t noted
 row_refused t _ = None
 
--- The last stream is opened that a connection may have, and the farewell that it calls for would go out while too many octets are untaken: so the
+-- The last stream is opened that a connection may have, and the GOAWAY that it calls for would go out while too many octets are untaken: so the
 -- connection ends in its place, and what the head says isn't acted on. (So the code of this row is never sent on a stream.)
-abbrev pub row_no_farewell : List Entry → Entry → Option Fault
-row_no_farewell t (Came noted) = fault_if (opens_last t (Came noted) && is_crowded t) (Stream enhance_your_calm)
-row_no_farewell t _ = None
+abbrev pub row_no_goaway : List Entry → Entry → Option Fault
+row_no_goaway t (Came noted) = fault_if (opens_last t (Came noted) && is_crowded t) (Stream enhance_your_calm)
+row_no_goaway t _ = None
 
 -- ---- what is no request
 
@@ -202,7 +204,7 @@ rows_behind_block t e =
     ∷ row_stream_update t e
     ∷ row_stream_data t e
     ∷ row_refused t e
-    ∷ row_no_farewell t e
+    ∷ row_no_goaway t e
     ∷ []
 
 -- the fault by all these rows

@@ -22,7 +22,7 @@ pub data WouldGo (known : Known) (t : List Entry) : Type 0 where
   Owed : (newer : List Frame) → (next : Frame) → owed known t ≡ newer ++ next ∷ controls (sent t) → WouldGo known t
   Returned : WouldReturn known t → WouldGo known t
 
--- Each farewell that stands in place of another frame stands where one would go.
+-- Each GOAWAY that stands in place of another frame stands where one would go.
 abbrev pub FloodsHold : Known → List Entry → Type 0
 FloodsHold known [] = Unit {0}
 FloodsHold known (Sent noted ∷ t) = (stands_in known t noted ≡ true → WouldGo known t) × FloodsHold known t

@@ -1,8 +1,11 @@
 -- The rows of the error table that look at a frame alone, and at the header block that was begun before it (RFC 9113, sections
 -- 3.4, 4 and 6).
-use Rattle.std.specs.Prelude.{ℕ, suc, ◌%◌, Bool, false, not, ◌&&◌, ◌||◌, ◌==◌, nat_lt, if◌then◌else◌, List, [], ◌∷◌, length, Option, Some, None, is_none, option_map}
+use Rattle.std.specs.Prelude.{ℕ, suc, ◌%◌, Bool, false, not, ◌&&◌, ◌||◌, ◌==◌, nat_lt, if◌then◌else◌, List, [], ◌∷◌}
+use Rattle.std.specs.Prelude.{length, Option, Some, None, is_none, option_map}
 use Rattle.model.specs.Limits.{longest_block, most_continuations}
-use Rattle.model.specs.Frames.{Frame, data_kind, headers_kind, priority_kind, rst_stream_kind, settings_kind, push_promise_kind, ping_kind, goaway_kind, continuation_kind, protocol_error, enhance_your_calm}
+use Rattle.model.specs.Frames.{Frame, data_kind, headers_kind, priority_kind, rst_stream_kind, settings_kind}
+use Rattle.model.specs.Frames.{push_promise_kind, ping_kind, goaway_kind, continuation_kind, protocol_error}
+use Rattle.model.specs.Frames.{enhance_your_calm}
 use Rattle.model.specs.Tapes.{Noted, Entry, came}
 use Rattle.model.specs.Tapes.Entry.{Came}
 use Rattle.model.specs.Decoding.{Partial, joined, begun}

@@ -1,5 +1,6 @@
 -- Which streams were opened on a tape, which side ended each or reset it, and which are active (RFC 9113, section 5.1).
-use Rattle.std.specs.Prelude.{ℕ, suc, ◌%◌, max, Bool, true, false, not, ◌&&◌, ◌||◌, ◌==◌, nat_lt, if◌then◌else◌, List, [], ◌∷◌, map, filter, length, Option, Some, None, fold}
+use Rattle.std.specs.Prelude.{ℕ, suc, ◌%◌, max, Bool, true, false, not, ◌&&◌, ◌||◌, ◌==◌, nat_lt, if◌then◌else◌, List}
+use Rattle.std.specs.Prelude.{[], ◌∷◌, map, filter, length, Option, Some, None, fold}
 use Rattle.std.specs.List.{list_all, list_any}
 use Rattle.model.specs.Frames.{Frame, data_kind, rst_stream_kind, ends_stream}
 use Rattle.model.specs.Tapes.{Note, Noted, Entry, came, sent}
@@ -116,5 +117,5 @@ resets_by_client (Came noted ∷ t) = if resets_active t noted.frame then suc (r
 resets_by_client (_ ∷ t) = resets_by_client t
 
 -- All streams that a connection may have were opened, and none is active any more.
-abbrev pub is_spent : List Entry → Bool
-is_spent t = length (opened t) == most_streams && length (active t) == 0
+abbrev pub is_exhausted : List Entry → Bool
+is_exhausted t = length (opened t) == most_streams && length (active t) == 0

@@ -1,13 +1,16 @@
 -- When the items of a stream are no request, as a test (RFC 9113, sections 8.1 to 8.3). These are
 -- the rules of `Http2` again. They are proved equal (law `malformed_tests`), so whoever has read
 -- `Http2` can skip this file.
-use Rattle.std.specs.Prelude.{ℕ, ◌+◌, Bool, true, false, not, ◌&&◌, ◌||◌, ◌==◌, nat_le, if◌then◌else◌, List, [], ◌∷◌, length, codes, bytes_eq, Option, Some, None}
+use Rattle.std.specs.Prelude.{ℕ, ◌+◌, Bool, true, false, not, ◌&&◌, ◌||◌, ◌==◌, nat_le, if◌then◌else◌, List, [], ◌∷◌}
+use Rattle.std.specs.Prelude.{length, codes, bytes_eq, Option, Some, None}
 use Rattle.std.specs.List.{list_all, list_any}
 use Rattle.model.specs.Octets.{some_of, is_digit, is_token_octet, lower, is_value}
 use Rattle.model.specs.Messages.{Field, Item}
 use Rattle.model.specs.Messages.Item.{Block}
 use Rattle.model.specs.Http1.{values_of, without}
-use Rattle.model.specs.Http2.{is_pseudo, pseudo_fields, regular_fields, method_of, authorities_of, authority_of, is_connect, declared_length, known_names, is_name_octet, connection_names, is_path_for, is_authority_octet, body_of}
+use Rattle.model.specs.Http2.{is_pseudo, pseudo_fields, regular_fields, method_of, authorities_of, authority_of}
+use Rattle.model.specs.Http2.{is_connect, declared_length, known_names, is_name_octet, connection_names, is_path_for}
+use Rattle.model.specs.Http2.{is_authority_octet, body_of}
 
 -- ---- the rules of a head and of trailers
 

@@ -22,7 +22,8 @@ pub record IsRefused (to_head : Bool) (before : ℕ) (text : List ℕ) : Type 0 
 -- is refused.
 abbrev pub IsBadHead : Bool → ℕ → List ℕ → Type 0
 IsBadHead to_head before text =
-    NeverHasResponse text ⊎ ((HasNoResponse text × (longest_section < length text)) ⊎ ((head_text past : List ℕ) × (text ≡ head_text ++ past) × IsRefused to_head before head_text))
+    NeverHasResponse text ⊎ ((HasNoResponse text × (longest_section < length text))
+    ⊎ ((head_text past : List ℕ) × (text ≡ head_text ++ past) × IsRefused to_head before head_text))
 
 -- No chunk's line begins the text, nor does the text begin one.
 pub record IsNoLine (text : List ℕ) : Type 0 where
@@ -50,7 +51,8 @@ pub record AreRefused (text : List ℕ) : Type 0 where
 -- What no trailers begin with, more octets than trailers may have without their end, or trailers that are refused.
 abbrev pub AreBadTrailers : List ℕ → Type 0
 AreBadTrailers text =
-    NeverHasSection text ⊎ ((HasNoSection text × (longest_section < length text)) ⊎ ((trailers past : List ℕ) × (text ≡ trailers ++ past) × AreRefused trailers))
+    NeverHasSection text ⊎ ((HasNoSection text × (longest_section < length text))
+    ⊎ ((trailers past : List ℕ) × (text ≡ trailers ++ past) × AreRefused trailers))
 
 -- Behind whole chunks something that can't be continued.
 abbrev pub IsBadChunk : List ℕ → Type 0

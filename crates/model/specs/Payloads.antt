@@ -1,7 +1,10 @@
 -- The payload of a frame by its type (RFC 9113, section 6): what is wrong with it, and where its
 -- padding stands.
-use Rattle.std.specs.Prelude.{◌≡◌, ◌++◌, ℕ, ◌+◌, ◌-◌, ◌*◌, ◌%◌, Bool, not, ◌&&◌, ◌||◌, ◌==◌, nat_lt, nat_le, if◌then◌else◌, List, length, slice_index, Option, Some, None}
-use Rattle.model.specs.Frames.{Frame, priority_kind, rst_stream_kind, settings_kind, ping_kind, goaway_kind, window_update_kind, is_ack, content_offset, pad_length, content, protocol_error, frame_size_error}
+use Rattle.std.specs.Prelude.{◌≡◌, ◌++◌, ℕ, ◌+◌, ◌-◌, ◌*◌, ◌%◌, Bool, not, ◌&&◌, ◌||◌, ◌==◌, nat_lt, nat_le}
+use Rattle.std.specs.Prelude.{if◌then◌else◌, List, length, slice_index, Option, Some, None}
+use Rattle.model.specs.Frames.{Frame, priority_kind, rst_stream_kind, settings_kind, ping_kind, goaway_kind}
+use Rattle.model.specs.Frames.{window_update_kind, is_ack, content_offset, pad_length, content, protocol_error}
+use Rattle.model.specs.Frames.{frame_size_error}
 
 -- The rule holds of a frame of this type.
 abbrev pub has_kind_then : ℕ → Frame → Bool → Bool

@@ -48,7 +48,8 @@ pub record IsForwarded (t : List Entry) (stream : ℕ) (request : Request) : Typ
 -- Each whole request that has a route was forwarded, unless its connection was closed before.
 abbrev pub AllForwarded : Known → List Entry → Type 0
 AllForwarded known t =
-    (stream : ℕ) (request : Request) (place : ℕ) → H2Request (items known stream t) request → IsFirstMatch known.setup.routes request.authority request.target place → was_cut stream t ≡ false → IsForwarded t stream request
+    (stream : ℕ) (request : Request) (place : ℕ) → H2Request (items known stream t) request
+    → IsFirstMatch known.setup.routes request.authority request.target place → was_cut stream t ≡ false → IsForwarded t stream request
 
 -- ---- requests that aren't whole, where they are passed on as they come
 
@@ -61,7 +62,8 @@ pub record IsStreamed (known : Known) (t : List Entry) (stream : ℕ) : Type 0 w
 -- Each active stream whose items have a head and no end is passed on so.
 abbrev pub AllStreamed : Known → List Entry → Type 0
 AllStreamed known t =
-    known.setup.passing ≡ Streaming → (stream : ℕ) (head : List Field) → is_active stream t ≡ true → HasHead (items known stream t) head → list_any ends_with (items known stream t) ≡ false → IsStreamed known t stream
+    known.setup.passing ≡ Streaming → (stream : ℕ) (head : List Field) → is_active stream t ≡ true → HasHead (items known stream t) head
+    → list_any ends_with (items known stream t) ≡ false → IsStreamed known t stream
 
 -- ---- responses
 

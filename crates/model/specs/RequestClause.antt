@@ -29,7 +29,8 @@ AreWholeChunks (coding ∷ codings) rest = (chunks : List (List ℕ)) × Joined 
 -- Behind the head of a text, once that is there, stand whole chunks, if the body comes in chunks: no octet more, be it of a size.
 abbrev pub EndsWithChunks : List ℕ → Type 0
 EndsWithChunks text =
-    (head_text rest : List ℕ) (head : Head) → text ≡ head_text ++ rest → H1Head head_text head → AreWholeChunks (values_of (codes "transfer-encoding") head.fields) rest
+    (head_text rest : List ℕ) (head : Head) → text ≡ head_text ++ rest → H1Head head_text head
+    → AreWholeChunks (values_of (codes "transfer-encoding") head.fields) rest
 
 -- what upstreams are to read of these requests, the newest first, in the order in which they were sent
 abbrev pub forwarded : List Request → List Request

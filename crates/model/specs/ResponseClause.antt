@@ -1,6 +1,7 @@
 -- The clause on responses: what the client reads on each stream is what its upstream answered, or a reply of the gateway's own
 -- whose cause occurred. Header blocks keep within the client's limits, and aren't torn apart.
-use Rattle.std.specs.Prelude.{◌≡◌, ℕ, ◌≤◌, true, false, if◌then◌else◌, List, [], ◌∷◌, ◌++◌, length, Option, Some, None, is_some, All, Any, unwrap_or, is_none, ◌&&◌}
+use Rattle.std.specs.Prelude.{◌≡◌, ℕ, ◌≤◌, true, false, if◌then◌else◌, List, [], ◌∷◌, ◌++◌, length, Option, Some, None}
+use Rattle.std.specs.Prelude.{is_some, All, Any, unwrap_or, is_none, ◌&&◌}
 use Rattle.std.specs.List.{last_or}
 use Rattle.model.specs.Messages.{Field}
 use Rattle.model.specs.Tables.{Table}

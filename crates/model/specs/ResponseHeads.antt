@@ -1,6 +1,7 @@
 -- Heads of responses, as a client of an HTTP/1.1 server reads them (RFC 9112, sections 2 to 6). How a head is spelled says
 -- the grammar of httparse (this project's profile); here stands what it means, and which heads are taken.
-use Rattle.std.specs.Prelude.{◌≡◌, ℕ, ◌<◌, ◌≤◌, Bool, true, ◌&&◌, ◌||◌, ◌==◌, nat_le, nat_lt, if◌then◌else◌, List, [], ◌∷◌, ◌++◌, length, map, Option, Some, None, codes, bytes_eq}
+use Rattle.std.specs.Prelude.{◌≡◌, ℕ, ◌<◌, ◌≤◌, Bool, true, ◌&&◌, ◌||◌, ◌==◌, nat_le, nat_lt, if◌then◌else◌, List, []}
+use Rattle.std.specs.Prelude.{◌∷◌, ◌++◌, length, map, Option, Some, None, codes, bytes_eq}
 use Rattle.std.specs.List.{list_all, flat_map}
 use Rattle.std.specs.Str.Parse.{digits_value}
 use Rattle.httparse.specs.Grammar as grammar
@@ -124,7 +125,8 @@ abbrev pub framing_for : Bool → ℕ → ℕ → List Field → Option Framing
 framing_for to_head minor status fields =
     if status == 204
     then Some Bodiless
-    else (unless_bodiless (to_head || status == 304) (framed_by (named_by_connection fields) minor (values_of (codes "content-length") fields) (values_of (codes "transfer-encoding") fields)))
+    else (unless_bodiless (to_head || status == 304) (framed_by (named_by_connection fields) minor (values_of (codes "content-length") fields)
+    (values_of (codes "transfer-encoding") fields)))
 
 -- how the body of a final head is framed
 abbrev pub framing_of : Bool → grammar.ResponseHead → Option Framing

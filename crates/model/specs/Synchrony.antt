@@ -96,13 +96,15 @@ turns_on stream (_ ∷ t) = turns_on stream t
 -- The stream is ready before each turn, of whichever stream, in a stretch of the tape that stands behind this one.
 abbrev pub IsReadyAtEach : Known → ℕ → List Entry → List Entry → Type 0
 IsReadyAtEach known stream before [] = Unit {0}
-IsReadyAtEach known stream before (Sent noted ∷ stretch) = (begins_part noted.frame ≡ true → IsReady known (stretch ++ before) stream) × IsReadyAtEach known stream before stretch
+IsReadyAtEach known stream before (Sent noted ∷ stretch) = (begins_part noted.frame ≡ true → IsReady known (stretch ++ before) stream)
+    × IsReadyAtEach known stream before stretch
 IsReadyAtEach known stream before (_ ∷ stretch) = IsReadyAtEach known stream before stretch
 
 -- While a stream is ready at each turn and has none, no other has two.
 abbrev pub AreFair : Known → List Entry → Type 0
 AreFair known t =
-    (later stretch before : List Entry) → t ≡ later ++ stretch ++ before → (waits other : ℕ) → IsReadyAtEach known waits before stretch → turns_on waits stretch ≡ 0 → turns_on other stretch ≤ 1
+    (later stretch before : List Entry) → t ≡ later ++ stretch ++ before → (waits other : ℕ) → IsReadyAtEach known waits before stretch
+    → turns_on waits stretch ≡ 0 → turns_on other stretch ≤ 1
 
 -- These are the tables of both directions behind the tape, as the other side has them: that of the blocks that were sent, and
 -- that of all that came, refused, reset and discarded ones too. Blocks are written as the policy says, and turns are fair.

@@ -69,7 +69,8 @@ kept_in_all passing t = sum_by (λ stream. kept passing stream t) (active t)
 -- client hasn't ended.
 pub record GivesBack (known : Known) (t : List Entry) : Type 0 where
   pub shared : room_on_connection t ≡ pos first_window -ℤ pos (kept_in_all known.setup.passing t)
-  pub own : (stream : ℕ) → is_active stream t ≡ true → is_ended_by_client stream t ≡ false → room_on stream t ≡ pos first_window -ℤ pos (kept known.setup.passing stream t)
+  pub own : (stream : ℕ) → is_active stream t ≡ true → is_ended_by_client stream t ≡ false
+      → room_on stream t ≡ pos first_window -ℤ pos (kept known.setup.passing stream t)
 
 -- What is kept isn't given back, nor is it in the step in which its stream ends: no stream has more room than at first, less what is kept
 -- for it.
@@ -80,7 +81,8 @@ HoldsBack passing t = (stream : ℕ) → 0 < stream → room_on stream t ≤ℤ 
 abbrev pub GoesBack : Passing → List Entry → Type 0
 GoesBack passing t =
     (room_on_connection t <ℤ (pos first_window -ℤ pos (kept_in_all passing t)))
-    ⊎ ((stream : ℕ) × (is_active stream t ≡ true) × (is_ended_by_client stream t ≡ false) × (room_on stream t <ℤ (pos first_window -ℤ pos (kept passing stream t))))
+    ⊎ ((stream : ℕ) × (is_active stream t ≡ true) × (is_ended_by_client stream t ≡ false)
+    × (room_on stream t <ℤ (pos first_window -ℤ pos (kept passing stream t))))
 
 -- how many octets of DATA may come on an id; 0 is that of the connection
 abbrev pub room_of : ℕ → List Entry → ℤ

@@ -65,7 +65,8 @@ has_settings frame = frame.kind == settings_kind && not (is_ack frame)
 -- Settings are taken unless something is wrong with their frame or their values, or with the windows that they leave.
 abbrev pub are_taken : List Entry → List Setting → Frame → Bool
 are_taken t before frame =
-    has_settings frame && is_none (settings_fault frame.payload) && not (shifts_past (initial_window_after first_window (before ++ settings_in frame.payload)) t)
+    has_settings frame && is_none (settings_fault frame.payload)
+    && not (shifts_past (initial_window_after first_window (before ++ settings_in frame.payload)) t)
 
 -- all settings of the client so far, in their order
 abbrev pub client_settings : List Entry → List Setting

@@ -19,11 +19,15 @@ pub fn none_kept()
     ensures { (known : Known) (t : List Entry) → known.setup.keep ≡ false → BeginInTime known t → exchanges t ≡ opens t }
 {}
 
-/// Then each connection has the one exchange that it was opened for, and what it was sent is what that was: its request, whole or in part.
+/// Then each connection has the one exchange that it was opened for, and what it was sent is what
+/// that was: its request, whole or in part.
 pub fn each_alone()
-    ensures newest { (known : Known) (t : List Entry) (o : Opened) → known.setup.keep ≡ false → RequestsHold known t → IsIn o (opens t) → exchange_on o.k t ≡ o }
-    ensures sent { (known : Known) (t : List Entry) (o : Opened) → known.setup.keep ≡ false → RequestsHold known t → IsIn o (opens t) → GoToOpen t → sent_up o.k t ≡ sent_for o t }
-    ensures reads { (known : Known) (t : List Entry) (o : Opened) → known.setup.keep ≡ false → RequestsHold known t → IsIn o (opens t) → GoToOpen t → IsSent known t (o ∷ []) (sent_for o t) }
+    ensures newest { (known : Known) (t : List Entry) (o : Opened) → known.setup.keep ≡ false → RequestsHold known t → IsIn o (opens t)
+        → exchange_on o.k t ≡ o }
+    ensures sent { (known : Known) (t : List Entry) (o : Opened) → known.setup.keep ≡ false → RequestsHold known t → IsIn o (opens t) → GoToOpen t
+        → sent_up o.k t ≡ sent_for o t }
+    ensures reads { (known : Known) (t : List Entry) (o : Opened) → known.setup.keep ≡ false → RequestsHold known t → IsIn o (opens t) → GoToOpen t
+        → IsSent known t (o ∷ []) (sent_for o t) }
 {}
 
 /// A connection that was opened has an exchange, and an open one its newest.
@@ -37,15 +41,19 @@ pub fn texts_joined()
     ensures { (k : ℕ) (t : List Entry) → AreApart (exchanges t) → GoToOpen t → sent_up k t ≡ texts_of (exchanges_of k (exchanges t)) t }
 {}
 
-/// Where connections are kept, what exchanges were sent, one after another, reads as their requests, if that of each reads as its own.
+/// Where connections are kept, what exchanges were sent, one after another, reads as their
+/// requests, if that of each reads as its own.
 pub fn requests_joined()
-    ensures { (known : Known) (t : List Entry) (o : Opened) (os : List Opened) → known.setup.keep ≡ true → AreSentWhole known t os → IsSent known t (o ∷ []) (sent_for o t) → IsSent known t (o ∷ os) (texts_of (o ∷ os) t) }
+    ensures { (known : Known) (t : List Entry) (o : Opened) (os : List Opened) → known.setup.keep ≡ true → AreSentWhole known t os
+        → IsSent known t (o ∷ []) (sent_for o t) → IsSent known t (o ∷ os) (texts_of (o ∷ os) t) }
 {}
 
-/// What stands past the end of a response that is whole before its connection ends changes nothing of it (RFC 9112, section 6.3).
+/// What stands past the end of a response that is whole before its connection ends changes nothing
+/// of it (RFC 9112, section 6.3).
 pub fn past_its_end()
     ensures whole { (text more : List ℕ) (ended to_head : Bool) (r : Response) → H1Response text false to_head r → H1Response (text ++ more) ended to_head r }
-    ensures shown { (passing : Passing) (text more : List ℕ) (ended to_head : Bool) (d : Delivery) → IsComplete text false to_head → IsShown passing text false to_head d → IsShown passing (text ++ more) ended to_head d }
+    ensures shown { (passing : Passing) (text more : List ℕ) (ended to_head : Bool) (d : Delivery) → IsComplete text false to_head
+        → IsShown passing text false to_head d → IsShown passing (text ++ more) ended to_head d }
 {}
 
 /// No answer fails with what comes of an idle connection.

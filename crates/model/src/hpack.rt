@@ -22,7 +22,8 @@ pub fn one_string()
 
 /// A table and a block determine the fields and the next table (sections 3 and 6).
 pub fn one_block()
-    ensures { (table next other : Table) (octets : List ℕ) (fields others : List Field) → Block table octets fields next → Block table octets others other → (fields ≡ others) × (next ≡ other) }
+    ensures { (table next other : Table) (octets : List ℕ) (fields others : List Field) → Block table octets fields next → Block table octets others other
+        → (fields ≡ others) × (next ≡ other) }
 {}
 
 /// What a table keeps is the longest front of its fields whose sizes sum to at most the maximum (section 4).
@@ -32,13 +33,15 @@ pub fn longest_front()
     ensures longest { (max : ℕ) (fields front rest : List Field) → fields ≡ front ++ rest → total_size front ≤ max → length front ≤ length (keep max fields) }
 {}
 
-/// A table's maximum and the limits since the block before determine the maxima with which a block begins (section 4.2).
+/// A table's maximum and the limits since the block before determine the maxima with which a block
+/// begins (section 4.2).
 pub fn one_announcement()
     ensures { (maximum : ℕ) (limits maxima others : List ℕ) → Maxima maximum limits maxima → Maxima maximum limits others → maxima ≡ others }
 {}
 
-/// The frames of a direction determine what their header blocks say, and the table that these leave, where each block is read
-/// (RFC 9113, section 4.3).
+/// The frames of a direction determine what their header blocks say, and the table that these
+/// leave, where each block is read (RFC 9113, section 4.3).
 pub fn one_decoding()
-    ensures { (noted others : List Noted) (table other : Table) → map (λ n. n.frame) noted ≡ map (λ n. n.frame) others → are_read noted ≡ true → are_read others ≡ true → Decodes noted table → Decodes others other → (noted ≡ others) × (table ≡ other) }
+    ensures { (noted others : List Noted) (table other : Table) → map (λ n. n.frame) noted ≡ map (λ n. n.frame) others → are_read noted ≡ true
+        → are_read others ≡ true → Decodes noted table → Decodes others other → (noted ≡ others) × (table ≡ other) }
 {}

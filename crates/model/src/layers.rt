@@ -33,16 +33,21 @@ pub fn no_second_turn()
     ensures { (last waiting other : ℕ) (turns : List Turn) → AreTurns last turns → IsPassedOver waiting turns → turns_of other turns ≤ 1 }
 {}
 
-/// Settings are read as they are spelled, and those of two frames leave the window that they leave as one (RFC 9113, sections
-/// 6.5.1 and 6.5.3).
+/// Settings are read as they are spelled, and those of two frames leave the window that they leave
+/// as one (RFC 9113, sections 6.5.1 and 6.5.3).
 pub fn settings_in_order()
-    ensures read_back { (s : Setting) (more : List ℕ) → s.identifier < 65536 → s.value < 4294967296 → settings_in (setting s.identifier s.value ++ more) ≡ s ∷ settings_in more }
-    ensures applied { (before : ℕ) (earlier later : List Setting) → initial_window_after before (earlier ++ later) ≡ initial_window_after (initial_window_after before earlier) later }
+    ensures read_back { (s : Setting) (more : List ℕ) → s.identifier < 65536 → s.value < 4294967296
+        → settings_in (setting s.identifier s.value ++ more) ≡ s ∷ settings_in more }
+    ensures applied { (before : ℕ) (earlier later : List Setting)
+        → initial_window_after before (earlier ++ later) ≡ initial_window_after (initial_window_after before earlier) later }
 {}
 
 /// A change of one stream leaves the ids as they were, and the states of all others (RFC 9113, section 5.1).
 pub fn one_stream_changes()
-    ensures this { (change : Change) (id : ℕ) (streams : List OpenedStream) → state_of id (changed change id streams) ≡ option_map (after change) (state_of id streams) }
-    ensures others { (change : Change) (id other : ℕ) (streams : List OpenedStream) → other ≢ id → state_of other (changed change id streams) ≡ state_of other streams }
-    ensures ids { (change : Change) (id : ℕ) (streams : List OpenedStream) → map (λ stream. stream.id) (changed change id streams) ≡ map (λ stream. stream.id) streams }
+    ensures this { (change : Change) (id : ℕ) (streams : List OpenedStream)
+        → state_of id (changed change id streams) ≡ option_map (after change) (state_of id streams) }
+    ensures others { (change : Change) (id other : ℕ) (streams : List OpenedStream) → other ≢ id
+        → state_of other (changed change id streams) ≡ state_of other streams }
+    ensures ids { (change : Change) (id : ℕ) (streams : List OpenedStream)
+        → map (λ stream. stream.id) (changed change id streams) ≡ map (λ stream. stream.id) streams }
 {}

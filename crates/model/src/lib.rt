@@ -1,5 +1,5 @@
-//! What HTTP/2, HTTP/1.1 and a faithful gateway are: the definitions that every other crate cites, in `specs/`, and laws
-//! of them, each as the contract of a function with an empty body.
+//! What HTTP/2, HTTP/1.1 and a faithful gateway are: the definitions that every other crate cites,
+//! in `specs/`, and laws of them, each as the contract of a function with an empty body.
 #![tactic(auto)]
 
 pub mod clauses;

@@ -17,7 +17,8 @@ ghost use Rattle.model.specs.Openings.{Opened, opens, given, AreNumbered};
 ghost use Rattle.model.specs.Available.{IsIn};
 ghost use Rattle.model.specs.Admission.{is_open};
 
-/// What has become of a stream stays, whatever comes: it was opened, it is over, it isn't active any more, the client ended it.
+/// What has become of a stream stays, whatever comes: it was opened, it is over, it isn't active
+/// any more, the client ended it.
 pub fn lives_stay()
     ensures opened { (t : List Entry) (e : Entry) (stream : ℕ) → is_opened stream t ≡ true → is_opened stream (e ∷ t) ≡ true }
     ensures over { (t : List Entry) (e : Entry) (stream : ℕ) → is_over stream t ≡ true → is_over stream (e ∷ t) ≡ true }
@@ -30,14 +31,19 @@ pub fn end_stays()
     ensures { (known : Known) (t : List Entry) (noted : Noted) → must_end known t ≡ true → must_end known (Sent noted ∷ t) ≡ true }
 {}
 
-/// The items of a stream stay with an entry that brings it none, with a frame on it that has a fault or no item, and once they are
-/// over. Where it has items, whether its request has the method HEAD stays.
+/// The items of a stream stay with an entry that brings it none, with a frame on it that has a
+/// fault or no item, and once they are over. Where it has items, whether its request has the method
+/// HEAD stays.
 pub fn items_stay()
     ensures none { (known : Known) (stream : ℕ) (t : List Entry) (e : Entry) → items_of stream t e ≡ [] → items known stream t ≡ items known stream (e ∷ t) }
-    ensures by_fault { (known : Known) (t : List Entry) (noted : Noted) (found : Fault) → fault known t (Came noted) ≡ Some found → items known noted.frame.id (Came noted ∷ t) ≡ items known noted.frame.id t }
-    ensures by_over { (known : Known) (t : List Entry) (noted : Noted) → (course known noted.frame.id t).over ≡ true → items known noted.frame.id (Came noted ∷ t) ≡ items known noted.frame.id t }
-    ensures by_frame { (known : Known) (t : List Entry) (noted : Noted) → frame_items (completed (came t) noted.frame) noted ≡ [] → items known noted.frame.id (Came noted ∷ t) ≡ items known noted.frame.id t }
-    ensures method { (known : Known) (stream : ℕ) (t : List Entry) (e : Entry) → (items known stream t ≡ [] → ⊥) → is_to_head (items known stream t) ≡ is_to_head (items known stream (e ∷ t)) }
+    ensures by_fault { (known : Known) (t : List Entry) (noted : Noted) (found : Fault) → fault known t (Came noted) ≡ Some found
+        → items known noted.frame.id (Came noted ∷ t) ≡ items known noted.frame.id t }
+    ensures by_over { (known : Known) (t : List Entry) (noted : Noted) → (course known noted.frame.id t).over ≡ true
+        → items known noted.frame.id (Came noted ∷ t) ≡ items known noted.frame.id t }
+    ensures by_frame { (known : Known) (t : List Entry) (noted : Noted) → frame_items (completed (came t) noted.frame) noted ≡ []
+        → items known noted.frame.id (Came noted ∷ t) ≡ items known noted.frame.id t }
+    ensures method { (known : Known) (stream : ℕ) (t : List Entry) (e : Entry) → (items known stream t ≡ [] → ⊥)
+        → is_to_head (items known stream t) ≡ is_to_head (items known stream (e ∷ t)) }
 {}
 
 /// The client ended a stream whose items come to an end.

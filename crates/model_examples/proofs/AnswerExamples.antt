@@ -247,7 +247,7 @@ errors = record {
       ),
     ),
   );
-  farewell_first = (refl, (refl, (refl, tt)));
+  goaway_first = (refl, (refl, (refl, tt)));
   rightly_sent = (refl, (refl, (refl, (refl, tt))));
   calm = (record { uncrowded = λ so. absurd (let no : false ≡ true = so in cc); in_place = λ so. absurd (let no : false ≡ true = so in cc) }, (record { uncrowded = λ so. absurd (let no : false ≡ true = so in cc); in_place = λ so. absurd (let no : false ≡ true = so in cc) }, (record { uncrowded = λ so. absurd (let no : false ≡ true = so in cc); in_place = λ so. absurd (let no : false ≡ true = so in cc) }, (record { uncrowded = λ so. absurd (let no : false ≡ true = so in cc); in_place = λ so. absurd (let no : false ≡ true = so in cc) }, tt))));
   closed = refl;

@@ -69,7 +69,7 @@ greeted_holds = record {
     limits = (tt, tt);
     delivered = λ stream. none_read greeted stream (nothing_either (0 == stream));
   };
-  errors = record { begins = ([], refl); just_owed = refl; followed = tt; farewell_first = tt; rightly_sent = (refl, tt); calm = (record { uncrowded = λ so. absurd (let no : false ≡ true = so in cc); in_place = λ so. absurd (let no : false ≡ true = so in cc) }, tt); closed = refl; in_time = tt };
+  errors = record { begins = ([], refl); just_owed = refl; followed = tt; goaway_first = tt; rightly_sent = (refl, tt); calm = (record { uncrowded = λ so. absurd (let no : false ≡ true = so in cc); in_place = λ so. absurd (let no : false ≡ true = so in cc) }, tt); closed = refl; in_time = tt };
   progress = record {
     forwarded = greeted_forwarded;
     streamed = not_streaming;
@@ -105,7 +105,7 @@ settled_holds = record {
     begins = (settings_ack ∷ [], refl);
     just_owed = refl;
     followed = (inl (settings_ack ∷ [], refl), tt);
-    farewell_first = tt;
+    goaway_first = tt;
     rightly_sent = (refl, (refl, tt));
     calm = (record { uncrowded = λ so. absurd (let no : false ≡ true = so in cc); in_place = λ so. absurd (let no : false ≡ true = so in cc) }, (record { uncrowded = λ so. absurd (let no : false ≡ true = so in cc); in_place = λ so. absurd (let no : false ≡ true = so in cc) }, tt));
     closed = refl;

@@ -32,9 +32,9 @@ pub ping_between : fault by_whole two_frames (plain (frame 6 0 0 (1 ∷ 2 ∷ 3 
 unfolding total_size
 ping_between = refl
 
-pub farewell_between : owed_by by_whole two_frames (plain (frame 6 0 0 (1 ∷ 2 ∷ 3 ∷ 4 ∷ 5 ∷ 6 ∷ 7 ∷ 8 ∷ []))) ≡ goaway 0 protocol_error ∷ []
+pub goaway_between : owed_by by_whole two_frames (plain (frame 6 0 0 (1 ∷ 2 ∷ 3 ∷ 4 ∷ 5 ∷ 6 ∷ 7 ∷ 8 ∷ []))) ≡ goaway 0 protocol_error ∷ []
 unfolding total_size
-farewell_between = refl
+goaway_between = refl
 
 -- ---- a block of many frames: 64 CONTINUATION frames may come, and no more
 
@@ -60,9 +60,9 @@ unfolding total_size
 lost_block = refl
 
 -- the stream of such a block isn't opened
-pub farewell_of_lost : owed_by by_whole got (Came lost) ≡ goaway 1 compression_error ∷ []
+pub goaway_of_lost : owed_by by_whole got (Came lost) ≡ goaway 1 compression_error ∷ []
 unfolding total_size
-farewell_of_lost = refl
+goaway_of_lost = refl
 
 -- ---- frames on streams that are closed
 

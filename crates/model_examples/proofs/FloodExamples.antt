@@ -13,7 +13,7 @@ use Rattle.model.specs.Errors.Fault.{Connection}
 use Rattle.model.specs.FrameErrors.{fault_if, row_between, row_long_block, row_misplaced, row_payload}
 use Rattle.model.specs.Admission.{untaken, is_crowded}
 use Rattle.model.specs.Limits.{most_untaken, most_resets}
-use Rattle.model.specs.Lifetimes.{is_active, is_spent, resets_by_client}
+use Rattle.model.specs.Lifetimes.{is_active, is_exhausted, resets_by_client}
 use Rattle.model.specs.ErrorTable.{row_settings, row_shift, row_connection_update, row_idle, row_resets, row_connection_data, rows_behind_block, row_malformed}
 use Rattle.model.specs.Known.{Known}
 use Rattle.model.specs.Courses.{about, carried, course, fault}
@@ -92,7 +92,7 @@ goes_on_behind known t id code active count right on c =
     let is : fault known t e ≡ Some (Connection enhance_your_calm) =
     ap (λ (o : Option Fault). or_else o malformed) (passed (rows_before t e) (row_resets t e ∷ rows_later t e) right)
     ∙ ap (λ (o : Option Fault). or_else (first_of (o ∷ rows_later t e)) malformed) (one_too_many t id code active count) in
-    let clash : false ≡ true = sym on ∙ c.closed ∙ ap (λ (o : Option Fault). is_fatal o || is_spent (e ∷ t)) is in
+    let clash : false ≡ true = sym on ∙ c.closed ∙ ap (λ (o : Option Fault). is_fatal o || is_exhausted (e ∷ t)) is in
     cc
 
 -- the fault of an entry by all rows but this one

@@ -160,7 +160,7 @@ errors = record {
   begins = (settings_ack ∷ [], refl);
   just_owed = refl;
   followed = (inl ([], refl), (inl ([], refl), (inl ([], refl), (inl (settings_ack ∷ [], refl), tt))));
-  farewell_first = (refl, (refl, tt));
+  goaway_first = (refl, (refl, tt));
   rightly_sent = (refl, (refl, tt));
   calm = (record { uncrowded = λ so. absurd (let no : false ≡ true = so in cc); in_place = λ so. absurd (let no : false ≡ true = so in cc) }, (record { uncrowded = λ so. absurd (let no : false ≡ true = so in cc); in_place = λ so. absurd (let no : false ≡ true = so in cc) }, tt));
   closed = refl;

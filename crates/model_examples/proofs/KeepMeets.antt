@@ -8,7 +8,7 @@ use Rattle.model.specs.Responses.{IsComplete}
 use Rattle.model.specs.Tapes.{Noted, Entry, is_closed}
 use Rattle.model.specs.Tapes.Entry.{Sent}
 use Rattle.model.specs.Admission.{is_open}
-use Rattle.model.specs.Lifetimes.{is_spent}
+use Rattle.model.specs.Lifetimes.{is_exhausted}
 use Rattle.model.specs.Known.{Known}
 use Rattle.model.specs.Idle.{LeavesOpen}
 use Rattle.model.specs.ErrorClause.{is_calming, calls_for_end, must_end}
@@ -85,14 +85,14 @@ both_read =
     behind_open posted_text getk (forward posted ∷ []) (forward request ∷ [])
     (posted_text, [], opens_for_more_behind, refl, refl) opens_for_more.reads
 
--- ---- a farewell in place of another frame
+-- ---- a GOAWAY in place of another frame
 
 absurd_both : (b : Bool) → b ≡ true → b ≡ false → ⊥
 absurd_both b so isnt = let clash : true ≡ false = sym so ∙ isnt in cc
 
 -- behind it no exchange begins, on a connection that is idle as on a new one,
 pub begins_none : (known : Known) (t : List Entry) (noted : Noted) (stream : ℕ) → is_calming noted.frame ≡ true → MayBeServed known (Sent noted ∷ t) stream → ⊥
-begins_none known t noted stream calming may = absurd_both (must_end known (Sent noted ∷ t)) (ap (λ b. (b || calls_for_end known t) || is_spent (Sent noted ∷ t)) calming) may.goes_on
+begins_none known t noted stream calming may = absurd_both (must_end known (Sent noted ∷ t)) (ap (λ b. (b || calls_for_end known t) || is_exhausted (Sent noted ∷ t)) calming) may.goes_on
 
 -- no connection stays open, idle or not, once it has led to the client's close,
 pub none_stays : (known : Known) (t : List Entry) → is_closed t ≡ true → AreClosed known t → (k : ℕ) → is_open k t ≡ true → ⊥

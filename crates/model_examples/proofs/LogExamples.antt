@@ -37,7 +37,7 @@ past_declared_open = refl
 past_declared_back : room_on_connection past_declared ≡ pos 65535 -ℤ pos (kept_in_all Streaming past_declared)
 past_declared_back = refl
 
--- ---- DATA on a skipped stream: a farewell, and the end
+-- ---- DATA on a skipped stream: a GOAWAY, and the end
 
 abbrev skipped : List Entry
 skipped = Did CloseClient ∷ Did (Close 1) ∷ out (goaway 5 stream_closed) ∷ plain (frame 0 0 3 (120 ∷ [])) ∷ getting 1 5 begun

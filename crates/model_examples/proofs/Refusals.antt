@@ -13,14 +13,14 @@ use Rattle.model.specs.Known.{Known}
 use Rattle.model.specs.Causes.{Cause}
 use Rattle.model.specs.Limits.{most_streams}
 use Rattle.model.specs.Lifetimes.{opened, highest}
-use Rattle.model.specs.ErrorClause.{ErrorsHold, FarewellsComeFirst, last_farewell, rst_stream}
+use Rattle.model.specs.ErrorClause.{ErrorsHold, GoawaysComeFirst, last_goaway, rst_stream}
 use Rattle.model.specs.ProgressClause.{ProgressHolds, Reason, AllStreamed}
 use Rattle.model.specs.ProgressClause.Reason.{Over, Complete, Answered, ClientClosed}
 use Rattle.model.specs.WindowClause.{WindowsHold}
 use Rattle.model.specs.Headline.{IsTold}
 use Rattle.model.specs.Synchrony.{IsWritten}
 use Rattle.model.proofs.OfferLemmas.{nothing_complete}
-use Rattle.model.proofs.OwedSteps.{no_farewell}
+use Rattle.model.proofs.OwedSteps.{no_goaway}
 use Rattle.model_examples.proofs.RowTapes.{by_whole, by_streaming, frame, plain, headed, out, field, post, post_block, begun, getting, got, update, settings}
 use Rattle.model_examples.proofs.CauseExamples.{ended_streaming, in_chunk_streaming}
 use Rattle.model_examples.proofs.WindowExamples as windows
@@ -48,13 +48,13 @@ pub goes_on : ErrorsHold by_whole (plain (frame 0 0 3 (120 ∷ [])) ∷ getting 
 unfolding total_size
 goes_on c = let clash : false ≡ true = c.closed in cc
 
--- It answers that DATA with a reset: a farewell is owed.
+-- It answers that DATA with a reset: a GOAWAY is owed.
 pub resets_instead : ErrorsHold by_whole (out (rst_stream 3 stream_closed) ∷ plain (frame 0 0 3 (120 ∷ [])) ∷ getting 1 5 begun) → ⊥
 unfolding total_size
 resets_instead c = let clash : false ≡ true = c.closed in cc
 
 -- no act stood right behind such an entry before
-earlier : (behind t : List Entry) → FarewellsComeFirst (behind ++ t) → FarewellsComeFirst t
+earlier : (behind t : List Entry) → GoawaysComeFirst (behind ++ t) → GoawaysComeFirst t
 earlier [] t first = first
 earlier (Came noted ∷ behind) t first = earlier behind t first
 earlier (Breached breach ∷ behind) t first = earlier behind t first
@@ -62,22 +62,22 @@ earlier (Happened event ∷ behind) t first = earlier behind t first
 earlier (Sent noted ∷ behind) t first = earlier behind t first
 earlier (Did act ∷ behind) t first = earlier behind t first.1
 
--- the entry that opens the last stream calls for a farewell
-last_calls : (t : List Entry) (e : Entry) → length (opened t) ≡ 9999 → length (opened (e ∷ t)) ≡ 10000 → last_farewell t e ≡ goaway (highest (e ∷ t)) no_error ∷ []
+-- the entry that opens the last stream calls for a GOAWAY
+last_calls : (t : List Entry) (e : Entry) → length (opened t) ≡ 9999 → length (opened (e ∷ t)) ≡ 10000 → last_goaway t e ≡ goaway (highest (e ∷ t)) no_error ∷ []
 last_calls t e before last =
     ap (λ n. if nat_lt n most_streams && length (opened (e ∷ t)) == most_streams then goaway (highest (e ∷ t)) no_error ∷ [] else []) before
     ∙ ap (λ n. if n == most_streams then goaway (highest (e ∷ t)) no_error ∷ [] else []) last
 
--- It opens the connection of the last stream, or does anything else, before it says farewell: whatever comes behind, that isn't first.
-pub acts_before_farewell : (known : Known) (behind t : List Entry) (e : Entry) (act : Act) → length (opened t) ≡ 9999 → length (opened (e ∷ t)) ≡ 10000 → ErrorsHold known (behind ++ Did act ∷ e ∷ t) → ⊥
-acts_before_farewell known behind t e act before last c =
-    let none : last_farewell t e ≡ [] = (earlier behind (Did act ∷ e ∷ t) c.farewell_first).0 in
+-- It opens the connection of the last stream, or does anything else, before it says GOAWAY: whatever comes behind, that isn't first.
+pub acts_before_goaway : (known : Known) (behind t : List Entry) (e : Entry) (act : Act) → length (opened t) ≡ 9999 → length (opened (e ∷ t)) ≡ 10000 → ErrorsHold known (behind ++ Did act ∷ e ∷ t) → ⊥
+acts_before_goaway known behind t e act before last c =
+    let none : last_goaway t e ≡ [] = (earlier behind (Did act ∷ e ∷ t) c.goaway_first).0 in
     let clash : goaway (highest (e ∷ t)) no_error ∷ [] ≡ [] = sym (last_calls t e before last) ∙ none in
     cc
 
--- Behind the farewell it may.
-pub acts_behind_farewell : (t : List Entry) (e : Entry) (last : ℕ) (act : Act) → FarewellsComeFirst (e ∷ t) → FarewellsComeFirst (Did act ∷ out (goaway last no_error) ∷ e ∷ t)
-acts_behind_farewell t e last act first = (no_farewell (e ∷ t) (out (goaway last no_error)) refl, first)
+-- Behind the GOAWAY it may.
+pub acts_behind_goaway : (t : List Entry) (e : Entry) (last : ℕ) (act : Act) → GoawaysComeFirst (e ∷ t) → GoawaysComeFirst (Did act ∷ out (goaway last no_error) ∷ e ∷ t)
+acts_behind_goaway t e last act first = (no_goaway (e ∷ t) (out (goaway last no_error)) refl, first)
 
 -- It leaves a response unreset whose upstream ended it in a chunk.
 pub unreset : ErrorsHold ended_streaming (Did (Close 1) ∷ Happened (UpEnd 1) ∷ in_chunk_streaming) → ⊥

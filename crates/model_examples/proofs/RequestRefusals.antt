@@ -21,7 +21,7 @@ use Rattle.model.specs.Openings.{Opened}
 use Rattle.model.specs.Known.{Known}
 use Rattle.model.specs.Lifetimes.{active, standing_on}
 use Rattle.model.specs.Malformed.{Carried}
-use Rattle.model.specs.ErrorTable.{fault_of, fault_on, judged, unless_of_stream, row_closed, rows_before_block, rows_behind_block, fault_with, row_block, row_stream_update, row_stream_data, row_refused, row_malformed, row_no_farewell}
+use Rattle.model.specs.ErrorTable.{fault_of, fault_on, judged, unless_of_stream, row_closed, rows_before_block, rows_behind_block, fault_with, row_block, row_stream_update, row_stream_data, row_refused, row_malformed, row_no_goaway}
 use Rattle.model.specs.Courses.{course, carried, items, interrupts, new_cause}
 use Rattle.model.specs.RequestClause.{IsServed, IsSentInPart, IsSent}
 use Rattle.model.proofs.OpenLaws.{one_alone, whole_alone, part_alone}
@@ -64,9 +64,9 @@ is_fault kept t noted block whole above =
         ap (λ p. unless_of_stream (fault_on t noted.frame.id (judged p noted.frame))) whole
         ∙ ap (λ s. unless_of_stream (fault_of (verdict (length (active t)) s headers_kind))) above
 
-    behind : (first : Option Fault) → (found : Fault) × (first_of (first ∷ row_closed t (Came noted) ∷ row_stream_update t (Came noted) ∷ row_stream_data t (Came noted) ∷ row_refused t (Came noted) ∷ row_no_farewell t (Came noted) ∷ []) ≡ Some found)
+    behind : (first : Option Fault) → (found : Fault) × (first_of (first ∷ row_closed t (Came noted) ∷ row_stream_update t (Came noted) ∷ row_stream_data t (Came noted) ∷ row_refused t (Came noted) ∷ row_no_goaway t (Came noted) ∷ []) ≡ Some found)
     behind (Some fault) = (fault, refl)
-    behind None = (Discarded, ap (λ r. first_of (r ∷ row_stream_update t (Came noted) ∷ row_stream_data t (Came noted) ∷ row_refused t (Came noted) ∷ row_no_farewell t (Came noted) ∷ [])) closed)
+    behind None = (Discarded, ap (λ r. first_of (r ∷ row_stream_update t (Came noted) ∷ row_stream_data t (Came noted) ∷ row_refused t (Came noted) ∷ row_no_goaway t (Came noted) ∷ [])) closed)
 
 -- any fault on a stream ends its items
 ends_items : (found : Fault) → is_ended_by true (Some found) ≡ true

@@ -1,2 +1,3 @@
-//! What the definitions of `model` say of worked logs, texts and frames, and what they refuse: each example is a proof, in `proofs/`.
+//! What the definitions of `model` say of worked logs, texts and frames, and what they refuse: each
+//! example is a proof, in `proofs/`.
 #![tactic(auto)]

@@ -14,8 +14,8 @@ use Rattle.model.specs.Known.{Known}
 use Rattle.model.specs.Causes.{Cause}
 use Rattle.model.specs.ErrorTable.{fault_with}
 use Rattle.model.specs.Courses.{Course, upstream_of, carried, cause_at, interrupts, course_behind, about, new_cause, next_course, course, fault}
-use Rattle.model.specs.ErrorClause.{rst_stream, last_farewell, acks, reset_for, reset_behind, resets, is_fatal, is_calming, controls, owed_first, owed_by, owed, calls_for_end, stands_in, must_end, IsFollowed, AreFollowed, IsCalm, AreCalm, EndsInTime, ErrorsHold}
-use Rattle.model.specs.Lifetimes.{is_spent}
+use Rattle.model.specs.ErrorClause.{rst_stream, last_goaway, acks, reset_for, reset_behind, resets, is_fatal, is_calming, controls, owed_first, owed_by, owed, calls_for_end, stands_in, must_end, IsFollowed, AreFollowed, IsCalm, AreCalm, EndsInTime, ErrorsHold}
+use Rattle.model.specs.Lifetimes.{is_exhausted}
 use Rattle.one_exchange.specs.Courses.{about_once, new_cause_once, next_course_once, course_once, fault_once}
 use Rattle.one_exchange.specs.Errors.{owed_first_once, resets_once, owed_by_once, calls_for_end_once, stands_in_once, owed_once, must_end_once, AreFollowedOnce, IsCalmOnce, AreCalmOnce, EndsInTimeOnce, ErrorsHoldOnce}
 use Rattle.one_exchange.proofs.Alone.{Stands, before, one_each}
@@ -52,7 +52,7 @@ module _ (known : Known) where
 
   first_is : (t : List Entry) (e : Entry) (found : Option Fault) → Stands known t → owed_first_once t e found ≡ owed_first t e found
   first_is t e (Some (Connection code)) s = refl
-  first_is t e (Some (Stream code)) s = ap (λ (id : ℕ). last_farewell t e ++ rst_stream id code ∷ []) (about_is t e s)
+  first_is t e (Some (Stream code)) s = ap (λ (id : ℕ). last_goaway t e ++ rst_stream id code ∷ []) (about_is t e s)
   first_is t e (Some Discarded) s = refl
   first_is t e None s = refl
 
@@ -89,7 +89,7 @@ module _ (known : Known) where
   stands_in_is t noted s = ap (λ b. is_calming noted.frame && not b) (calls_is t s)
 
   pub must_end_is : (t : List Entry) → Stands known t → must_end_once known t ≡ must_end known t
-  must_end_is t s = ap (λ b. b || is_spent t) (calls_is t s)
+  must_end_is t s = ap (λ b. b || is_exhausted t) (calls_is t s)
 
   -- what an entry calls for, behind what all before it do
   more_is : (t : List Entry) (e : Entry) → Stands known (e ∷ t) → owed_once known t ≡ owed known t → reverse (owed_by_once known t e) ++ owed_once known t ≡ reverse (owed_by known t e) ++ owed known t
@@ -149,7 +149,7 @@ module _ (known : Known) where
     begins = h.begins;
     just_owed = h.just_owed ∙ sym (owed_is t s);
     followed = are_followed [] t s h.followed;
-    farewell_first = h.farewell_first;
+    goaway_first = h.goaway_first;
     rightly_sent = h.rightly_sent;
     calm = are_calm t s h.calm;
     closed = h.closed ∙ sym (must_end_is t s);

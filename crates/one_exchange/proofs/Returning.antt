@@ -1,4 +1,4 @@
--- What is kept of windows is the same, and so is where a farewell may stand in place of another frame.
+-- What is kept of windows is the same, and so is where a GOAWAY may stand in place of another frame.
 use Rattle.std.proofs.Common.{◌≡◌, ℕ, List, [], ◌∷◌, refl, sym, ap, ◌∙◌, subst, inl, inr}
 use Rattle.std.specs.Prelude.{pos, ◌-ℤ◌, ◌≤ℤ◌, ◌<ℤ◌, sum_by}
 use Rattle.model.specs.Setup.{Passing}

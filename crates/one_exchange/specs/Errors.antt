@@ -8,15 +8,17 @@ use Rattle.model.specs.Admission.{is_crowded}
 use Rattle.model.specs.Errors.{Fault}
 use Rattle.model.specs.Errors.Fault.{Connection, Stream}
 use Rattle.model.specs.Known.{Known}
-use Rattle.model.specs.Lifetimes.{highest, is_spent}
-use Rattle.model.specs.ErrorClause.{rst_stream, last_farewell, code_of_farewell, acks, reset_for, reset_behind, is_fatal, is_calming, is_passing, controls, IsFollowed, FarewellsComeFirst, AreRightlySent, StandsInPlace}
+use Rattle.model.specs.Lifetimes.{highest, is_exhausted}
+use Rattle.model.specs.ErrorClause.{rst_stream, last_goaway, code_of_goaway, acks, reset_for, reset_behind, is_fatal}
+use Rattle.model.specs.ErrorClause.{is_calming, is_passing, controls, IsFollowed, GoawaysComeFirst, AreRightlySent}
+use Rattle.model.specs.ErrorClause.{StandsInPlace}
 use Rattle.one_exchange.specs.Courses.{about_once, course_once, fault_once}
 
 -- what an entry calls for before all else
 abbrev pub owed_first_once : List Entry → Entry → Option Fault → List Frame
-owed_first_once t e (Some (Connection code)) = goaway (highest (e ∷ t)) (code_of_farewell t code) ∷ []
-owed_first_once t e (Some (Stream code)) = last_farewell t e ++ rst_stream (about_once t e) code ∷ []
-owed_first_once t e _ = last_farewell t e
+owed_first_once t e (Some (Connection code)) = goaway (highest (e ∷ t)) (code_of_goaway t code) ∷ []
+owed_first_once t e (Some (Stream code)) = last_goaway t e ++ rst_stream (about_once t e) code ∷ []
+owed_first_once t e _ = last_goaway t e
 
 -- the reset of a stream by a cause of a reply of the gateway's own, where a response's final head is out
 abbrev pub resets_once : Known → ℕ → List Entry → Entry → List Frame
@@ -29,7 +31,7 @@ owed_by_once known t e =
     let found = fault_once known t e in
     owed_first_once t e found ++ (acks e found ++ (resets_once known (about_once t e) t e ++ reset_behind t e))
 
--- the last that came in calls for the end, or a farewell that asks the client to be calm
+-- the last that came in calls for the end, or a GOAWAY that asks the client to be calm
 abbrev pub calls_for_end_once : Known → List Entry → Bool
 calls_for_end_once known [] = false
 calls_for_end_once known (Came noted ∷ t) = is_fatal (fault_once known t (Came noted))
@@ -39,7 +41,7 @@ calls_for_end_once known (Happened event ∷ t) = false
 calls_for_end_once known (Sent noted ∷ t) = is_calming noted.frame || calls_for_end_once known t
 calls_for_end_once known (Did act ∷ t) = calls_for_end_once known t
 
--- such a farewell stands in place of another frame
+-- such a GOAWAY stands in place of another frame
 abbrev pub stands_in_once : Known → List Entry → Noted → Bool
 stands_in_once known t noted = is_calming noted.frame && not (calls_for_end_once known t)
 
@@ -62,7 +64,7 @@ AreFollowedOnce known frames (Sent noted ∷ t) = AreFollowedOnce known (frames 
 AreFollowedOnce known frames (e ∷ t) =
     IsFollowed frames (owed_first_once t e (fault_once known t e)) (fault_once known t e) × AreFollowedOnce known frames t
 
--- While too many octets are untaken just parts of responses go out, and such farewells, which stand in place of another frame there alone.
+-- While too many octets are untaken just parts of responses go out, and such GOAWAYs, which stand in place of another frame there alone.
 pub record IsCalmOnce (known : Known) (t : List Entry) (noted : Noted) : Type 0 where
   pub uncrowded : is_crowded t ≡ true → (is_passing noted || is_calming noted.frame) ≡ true
   pub in_place : stands_in_once known t noted ≡ true → StandsInPlace t noted.frame
@@ -74,7 +76,7 @@ AreCalmOnce known (_ ∷ t) = AreCalmOnce known t
 
 -- the connection with the client is to end
 abbrev pub must_end_once : Known → List Entry → Bool
-must_end_once known t = calls_for_end_once known t || is_spent t
+must_end_once known t = calls_for_end_once known t || is_exhausted t
 
 -- Nothing comes in where it is to end.
 abbrev pub EndsInTimeOnce : Known → List Entry → Type 0
@@ -88,7 +90,7 @@ pub record ErrorsHoldOnce (known : Known) (t : List Entry) : Type 0 where
   pub begins : (newer : List Frame) × (map (λ noted. noted.frame) (sent t) ≡ newer ++ settings_frame ∷ [])
   pub just_owed : controls (sent t) ≡ owed_once known t
   pub followed : AreFollowedOnce known [] t
-  pub farewell_first : FarewellsComeFirst t
+  pub goaway_first : GoawaysComeFirst t
   pub rightly_sent : AreRightlySent t
   pub calm : AreCalmOnce known t
   pub closed : is_closed t ≡ must_end_once known t

@@ -22,7 +22,7 @@ pub data WouldGoOnce (known : Known) (t : List Entry) : Type 0 where
   OwedOnce : (newer : List Frame) → (next : Frame) → owed_once known t ≡ newer ++ next ∷ controls (sent t) → WouldGoOnce known t
   ReturnedOnce : WouldReturnOnce known t → WouldGoOnce known t
 
--- The clause: each farewell that stands in place of another frame stands where one would go.
+-- The clause: each GOAWAY that stands in place of another frame stands where one would go.
 abbrev pub FloodsHoldOnce : Known → List Entry → Type 0
 FloodsHoldOnce known [] = Unit {0}
 FloodsHoldOnce known (Sent noted ∷ t) = (stands_in_once known t noted ≡ true → WouldGoOnce known t) × FloodsHoldOnce known t

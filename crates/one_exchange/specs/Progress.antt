@@ -42,7 +42,8 @@ pub record IsForwardedOnce (t : List Entry) (stream : ℕ) (request : Request) :
 -- Each whole request that has a route was forwarded, unless its connection was closed before.
 abbrev pub AllForwardedOnce : Known → List Entry → Type 0
 AllForwardedOnce known t =
-    (stream : ℕ) (request : Request) (place : ℕ) → H2Request (items_once known stream t) request → IsFirstMatch known.setup.routes request.authority request.target place → was_cut_once stream t ≡ false → IsForwardedOnce t stream request
+    (stream : ℕ) (request : Request) (place : ℕ) → H2Request (items_once known stream t) request
+    → IsFirstMatch known.setup.routes request.authority request.target place → was_cut_once stream t ≡ false → IsForwardedOnce t stream request
 
 -- A connection was opened for the stream and, while it is open, all octets of the body have come to it.
 pub record IsStreamedOnce (known : Known) (t : List Entry) (stream : ℕ) : Type 0 where
@@ -53,7 +54,8 @@ pub record IsStreamedOnce (known : Known) (t : List Entry) (stream : ℕ) : Type
 -- Where requests are passed on as they come, each active stream whose items have a head and no end is passed on so.
 abbrev pub AllStreamedOnce : Known → List Entry → Type 0
 AllStreamedOnce known t =
-    known.setup.passing ≡ Streaming → (stream : ℕ) (head : List Field) → is_active stream t ≡ true → HasHead (items_once known stream t) head → list_any ends_with (items_once known stream t) ≡ false → IsStreamedOnce known t stream
+    known.setup.passing ≡ Streaming → (stream : ℕ) (head : List Field) → is_active stream t ≡ true → HasHead (items_once known stream t) head
+    → list_any ends_with (items_once known stream t) ≡ false → IsStreamedOnce known t stream
 
 -- ---- responses
 

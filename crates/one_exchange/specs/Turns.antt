@@ -16,4 +16,5 @@ IsReadyAtEachOnce known stream before (_ ∷ stretch) = IsReadyAtEachOnce known 
 -- While a stream is ready at each turn and has none, no other has two.
 abbrev pub AreFairOnce : Known → List Entry → Type 0
 AreFairOnce known t =
-    (later stretch before : List Entry) → t ≡ later ++ stretch ++ before → (waits other : ℕ) → IsReadyAtEachOnce known waits before stretch → turns_on waits stretch ≡ 0 → turns_on other stretch ≤ 1
+    (later stretch before : List Entry) → t ≡ later ++ stretch ++ before → (waits other : ℕ) → IsReadyAtEachOnce known waits before stretch
+    → turns_on waits stretch ≡ 0 → turns_on other stretch ≤ 1

@@ -22,7 +22,8 @@ kept_in_all_once passing t = sum_by (λ stream. kept_once passing stream t) (act
 -- Each receiving window is as at first, but for what is kept.
 pub record GivesBackOnce (known : Known) (t : List Entry) : Type 0 where
   pub shared : room_on_connection t ≡ pos first_window -ℤ pos (kept_in_all_once known.setup.passing t)
-  pub own : (stream : ℕ) → is_active stream t ≡ true → is_ended_by_client stream t ≡ false → room_on stream t ≡ pos first_window -ℤ pos (kept_once known.setup.passing stream t)
+  pub own : (stream : ℕ) → is_active stream t ≡ true → is_ended_by_client stream t ≡ false
+      → room_on stream t ≡ pos first_window -ℤ pos (kept_once known.setup.passing stream t)
 
 -- No stream has more room than at first, less what is kept for it.
 abbrev pub HoldsBackOnce : Passing → List Entry → Type 0
@@ -32,7 +33,8 @@ HoldsBackOnce passing t = (stream : ℕ) → 0 < stream → room_on stream t ≤
 abbrev pub GoesBackOnce : Passing → List Entry → Type 0
 GoesBackOnce passing t =
     (room_on_connection t <ℤ (pos first_window -ℤ pos (kept_in_all_once passing t)))
-    ⊎ ((stream : ℕ) × (is_active stream t ≡ true) × (is_ended_by_client stream t ≡ false) × (room_on stream t <ℤ (pos first_window -ℤ pos (kept_once passing stream t))))
+    ⊎ ((stream : ℕ) × (is_active stream t ≡ true) × (is_ended_by_client stream t ≡ false)
+    × (room_on stream t <ℤ (pos first_window -ℤ pos (kept_once passing stream t))))
 
 -- The clause: DATA goes out within both windows, and octets that came are given back once they are passed on.
 pub record WindowsHoldOnce (known : Known) (t : List Entry) : Type 0 where

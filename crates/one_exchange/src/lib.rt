@@ -1,10 +1,12 @@
-//! Where upstream connections aren't kept (`keep` off), each carries one exchange, and the headline means what it means if it speaks of
-//! connections alone.
+//! Where upstream connections aren't kept (`keep` off), each carries one exchange, and the headline
+//! means what it means if it speaks of connections alone.
 //!
-//! `specs/` says each clause so, by names that end in `once`: `heard k` is all that came of a connection, `has_ended k` whether its upstream
-//! ended it, `sent_up k` all that it was sent, and `opens` has the one stream that each was opened for. Definitions to which this makes no
-//! difference are those of `model`. Each law is that a clause follows so from that of `model`, on a tape on which no connection is kept
-//! (`KeepsNone`); the tape of a log is one (`tapes_keep_none`), and so the headline follows too (`headline_once`).
+//! `specs/` says each clause so, by names that end in `once`: `heard k` is all that came of a
+//! connection, `has_ended k` whether its upstream ended it, `sent_up k` all that it was sent, and
+//! `opens` has the one stream that each was opened for. Definitions to which this makes no
+//! difference are those of `model`. Each law is that a clause follows so from that of `model`, on a
+//! tape on which no connection is kept (`KeepsNone`); the tape of a log is one (`tapes_keep_none`),
+//! and so the headline follows too (`headline_once`).
 #![tactic(auto)]
 
 ghost use Rattle.std.specs.Prelude.{◌≡◌, ℕ, false, List, ◌∷◌};
@@ -54,7 +56,8 @@ pub fn requests_once()
     ensures { (known : Known) (t : List Entry) → KeepsNone known t → RequestsHoldOnce known t }
 {}
 
-/// What the client reads on a stream is what came of the connection that was opened for it, or a reply of the gateway's own.
+/// What the client reads on a stream is what came of the connection that was opened for it, or a
+/// reply of the gateway's own.
 pub fn responses_once()
     ensures { (known : Known) (t : List Entry) → KeepsNone known t → ResponsesHold known t → ResponsesHoldOnce known t }
 {}
@@ -74,7 +77,7 @@ pub fn windows_once()
     ensures { (known : Known) (t : List Entry) → KeepsNone known t → WindowsHold known t → WindowsHoldOnce known t }
 {}
 
-/// A farewell stands in place of another frame where one would go.
+/// A GOAWAY stands in place of another frame where one would go.
 pub fn floods_once()
     ensures { (known : Known) (t : List Entry) → KeepsNone known t → FloodsHold known t → FloodsHoldOnce known t }
 {}
@@ -97,7 +100,8 @@ pub fn rooms_once()
 /// On the tape of a log what comes of an upstream comes while its connection is open; so no connection is kept on it.
 pub fn tapes_keep_none()
     ensures open { (known : Known) (steps : List Step) (tape : List Entry) → HasTape known steps tape → ComeOfOpen tape }
-    ensures none { (known : Known) (step : Step) (earlier : List Step) (tape : List Entry) → known.setup.keep ≡ false → HasTape known (step ∷ earlier) tape → KeepsNone known tape }
+    ensures none { (known : Known) (step : Step) (earlier : List Step) (tape : List Entry) → known.setup.keep ≡ false → HasTape known (step ∷ earlier) tape
+        → KeepsNone known tape }
 {}
 
 /// A log that keeps the headline keeps it as it is said where each connection carries one exchange.

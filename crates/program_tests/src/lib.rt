@@ -1,8 +1,9 @@
-//! Tests of the crates that read what the programs are given: the words of a command line, a configuration, and scripts with their replay; and of what the
-//! gateway is set up with and says where it stops.
+//! Tests of the crates that read what the programs are given: the words of a command line, a
+//! configuration, and scripts with their replay; and of what the gateway is set up with and says
+//! where it stops.
 //!
-//! There is nothing here but tests, one module for each crate. They stand apart from the crates so that no crate has to be proved a
-//! second time together with its tests.
+//! There is nothing here but tests, one module for each crate. They stand apart from the crates so
+//! that no crate has to be proved a second time together with its tests.
 #![tactic(auto)]
 
 #[cfg(test)]

@@ -1,7 +1,7 @@
 //! Scripts, and their replay.
 
 use gateway::{Event, Output, Text};
-use scripts::{ScriptFault, print_steps, read_script, replay};
+use replay::{ScriptFault, print_steps, read_script, replay};
 use std::alloc::{AllocError, Global};
 use std::io::Write;
 use std::process::Abort;

@@ -2,8 +2,8 @@
 
 use command_line::Word;
 use configuration::{ConfigFault, Key};
-use h2gw_parts::setting::{Setting, read_setting};
-use h2gw_parts::stops::{Stop, report};
+use h2gw_setup::setting::{Setting, read_setting};
+use h2gw_setup::stops::{Stop, report};
 use std::alloc::{Allocator, Global};
 use std::cell::RefCell;
 use std::env::{Env, FillError};

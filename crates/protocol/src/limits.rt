@@ -18,15 +18,15 @@ pub const GREATEST_WINDOW: u32 = 2147483647;
 /// The maximum of a header table at first (RFC 9113, section 6.5.2: the first value of SETTINGS_HEADER_TABLE_SIZE).
 pub const FIRST_TABLE_SIZE: u32 = 4096;
 
-/// The greatest maximum of a header table, in both directions: the gateway announces no other (RFC 7541, section 4.2), and takes no
-/// greater one of a client, by its own limit.
+/// The greatest maximum of a header table, in both directions: the gateway announces no other (RFC
+/// 7541, section 4.2), and takes no greater one of a client, by its own limit.
 pub const LARGEST_TABLE_SIZE: u32 = FIRST_TABLE_SIZE;
 
 /// How many streams of a connection are served: the gateway's own limit.
 pub const MOST_STREAMS: u32 = 10000;
 
-/// How many streams may be active at a time: the gateway's own limit, which it announces as SETTINGS_MAX_CONCURRENT_STREAMS
-/// (RFC 9113, section 5.1.2).
+/// How many streams may be active at a time: the gateway's own limit, which it announces as
+/// SETTINGS_MAX_CONCURRENT_STREAMS (RFC 9113, section 5.1.2).
 pub const MOST_ACTIVE: u32 = 100;
 
 /// How many resets of active streams are borne: the gateway's own limit.
@@ -38,8 +38,8 @@ pub const LONGEST_BLOCK: usize = 65536;
 /// In how many CONTINUATION frames a header block may come: the gateway's own limit.
 pub const MOST_CONTINUATIONS: u32 = 64;
 
-/// How large a header list may be: the gateway's own limit, which it announces as SETTINGS_MAX_HEADER_LIST_SIZE (RFC 9113,
-/// section 6.5.2).
+/// How large a header list may be: the gateway's own limit, which it announces as
+/// SETTINGS_MAX_HEADER_LIST_SIZE (RFC 9113, section 6.5.2).
 pub const LARGEST_FIELDS: usize = 16384;
 
 /// How many octets of one side may come in one event: the gateway's own limit.

@@ -1,9 +1,12 @@
 -- The rules by name, and which of those that are broken is the first.
 use Rattle.std.specs.Prelude.{◌≡◌, ℕ, Bool, true, List, [], ◌∷◌, take}
 use Rattle.model.specs.Messages.{Field}
-use Rattle.model.specs.Http2.{PseudoFieldsHold, pseudo_fields, NamesHold, ValuesHold, HasNoConnectionField, TeHolds, MethodHolds, SchemeHolds, PathHolds, AuthorityHolds, LengthFieldHolds, HasLength, declared_length}
+use Rattle.model.specs.Http2.{PseudoFieldsHold, pseudo_fields, NamesHold, ValuesHold, HasNoConnectionField, TeHolds}
+use Rattle.model.specs.Http2.{MethodHolds, SchemeHolds, PathHolds, AuthorityHolds, LengthFieldHolds, HasLength}
+use Rattle.model.specs.Http2.{declared_length}
 use Rattle.request_rules.specs.declared.rule.Rule.{Rule}
-use Rattle.request_rules.specs.declared.rule.Rule.TheVariants.{PseudoField, Name, Value, ConnectionField, Te, Method, Scheme, Path, Authority, ContentLength, Length, Memory}
+use Rattle.request_rules.specs.declared.rule.Rule.TheVariants.{PseudoField, Name, Value, ConnectionField, Te, Method}
+use Rattle.request_rules.specs.declared.rule.Rule.TheVariants.{Scheme, Path, Authority, ContentLength, Length, Memory}
 
 -- What each rule asks of a head, which ends its stream or doesn't. Where memory is refused no head is right.
 abbrev pub Asks : Rule → List Field → Bool → Type 0

@@ -35,8 +35,8 @@ fn length_holds(head: &[Field], ended: bool) -> bool
     matches!(declared_length(head), None | Some(0))
 }
 
-/// The first rule that a head breaks. Ordinary fields at its end break none, so that mostly the rules are asked of a short
-/// front alone.
+/// The first rule that a head breaks. Ordinary fields at its end break none, so that mostly the
+/// rules are asked of a short front alone.
 fn first_broken(head: &[Field], ended: bool) -> Option<Rule>
     ensures { MatchOption result (Keeps (take 11 in_order) head.now ended) (λ rule. IsFirstBroken rule head.now ended) }
 {
@@ -86,8 +86,9 @@ fn first_in_order(head: &[Field], ended: bool) -> Option<Rule>
     None
 }
 
-/// Checks the head of a request (RFC 9113, sections 8.2 to 8.5) and answers its parts; `ended` where the head ends the
-/// stream. An error is the first rule, in the order of [`Rule`], that the head breaks; `Memory` comes where it breaks none.
+/// Checks the head of a request (RFC 9113, sections 8.2 to 8.5) and answers its parts; `ended`
+/// where the head ends the stream. An error is the first rule, in the order of [`Rule`], that the
+/// head breaks; `Memory` comes where it breaks none.
 pub fn check_head(alloc: Global, head: &[Field], ended: bool) -> Result<RequestHead, Rule>
     ensures ok { IfOk result (λ parts. parts ≡ parts_of head.now) }
     ensures request { IfOk result (λ parts. is_connect head.now ≡ false → IsRequestHead parts) }
@@ -108,9 +109,9 @@ pub fn check_head(alloc: Global, head: &[Field], ended: bool) -> Result<RequestH
     }
 }
 
-/// Checks the trailers of a request (RFC 9113, section 8.1), and answers those that are passed on. An error is the first rule, in the
-/// order of [`Rule`], that they break: one of pseudo-fields, names, values and fields of the connection; `Memory` comes where they
-/// break none.
+/// Checks the trailers of a request (RFC 9113, section 8.1), and answers those that are passed on.
+/// An error is the first rule, in the order of [`Rule`], that they break: one of pseudo-fields,
+/// names, values and fields of the connection; `Memory` comes where they break none.
 pub fn check_trailers(alloc: Global, trailers: &[Field]) -> Result<Vec<Field>, Rule>
     ensures ok { IfOk result (λ fields. fields.items ≡ passed_trailers trailers.now) }
     ensures kept { OnOk result (WellFormedTrailers trailers.now) }

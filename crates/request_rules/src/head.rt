@@ -31,7 +31,13 @@ impl Model for RequestHead {
 
     ghost Value = { HeadParts };
 
-    ghost view = { λ head. record { method = head.method.items; path = head.path.items; authority = head.authority.items; fields = head.fields.items; length = head.length } };
+    ghost view = { λ head. record {
+      method = head.method.items;
+      path = head.path.items;
+      authority = head.authority.items;
+      fields = head.fields.items;
+      length = head.length;
+    } };
 }
 
 impl RequestHead {

@@ -2,7 +2,9 @@
 
 ghost use Rattle.std.specs.Prelude.{◌≡◌, ◌≤◌, [], true, false, MatchBool, if◌then◌else◌, length, codes};
 ghost use Rattle.model.specs.Http1.{values_of};
-ghost use Rattle.model.specs.Http2.{pseudo_fields, is_connect, authority_of, PseudoFieldsHold, NamesHold, ValuesHold, HasNoConnectionField, TeHolds, MethodHolds, SchemeHolds, PathHolds, AuthorityHolds, LengthFieldHolds, Has};
+ghost use Rattle.model.specs.Http2.{pseudo_fields, is_connect, authority_of, PseudoFieldsHold, NamesHold, ValuesHold};
+ghost use Rattle.model.specs.Http2.{HasNoConnectionField, TeHolds, MethodHolds, SchemeHolds, PathHolds, AuthorityHolds};
+ghost use Rattle.model.specs.Http2.{LengthFieldHolds, Has};
 
 use field_rules::{fields, is_authority, is_token};
 use hpack_table::Field;
@@ -124,7 +126,9 @@ pub fn authority_holds(head: &[Field]) -> bool
 
 /// Whether the authority's pseudo-field is there as often as it may.
 fn authority_count_holds(head: &[Field], connect: bool) -> bool
-    ensures { MatchBool result ((length (values_of (codes ":authority") head.now) ≤ 1) × (connect ≡ true → Has 1 (codes ":authority") head.now)) ((length (values_of (codes ":authority") head.now) ≤ 1) × (connect ≡ true → Has 1 (codes ":authority") head.now) → ⊥) }
+    ensures { MatchBool result ((length (values_of (codes ":authority") head.now) ≤ 1)
+        × (connect ≡ true → Has 1 (codes ":authority") head.now)) ((length (values_of (codes ":authority") head.now) ≤ 1)
+        × (connect ≡ true → Has 1 (codes ":authority") head.now) → ⊥) }
 {
     let count = fields::count(head, b":authority");
     if connect { count == 1 } else { count <= 1 }

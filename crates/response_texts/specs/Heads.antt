@@ -44,17 +44,21 @@ abbrev pub IsHeadRead : Bool → List ℕ → HeadRead → Type 0
 IsHeadRead to_head text More = HasNoResponse text × MayBecomeResponse text
 IsHeadRead to_head text (Interim head used) = (used ≤ length text) × model.Interim (take used text) head
 IsHeadRead to_head text (Final head framing connections stays used) =
-    (used ≤ length text) × IsFinalRead to_head (take used text) head (framing_view (named_by_connection connections.items) framing) stays × (field_octets connections.items ≤ 16384)
+    (used ≤ length text) × IsFinalRead to_head (take used text) head (framing_view (named_by_connection connections.items) framing) stays
+    × (field_octets connections.items ≤ 16384)
 
 -- Whatever follows the octets, they begin with no interim head and with no final one.
 pub record HasNoHead (to_head : Bool) (text : List ℕ) : Type 0 where
   pub no_interim : (more front past : List ℕ) (head : model.Head) → text ++ more ≡ front ++ past → model.Interim front head → ⊥
-  pub no_final : (more front past : List ℕ) (head : model.Head) (framing : model.Framing) → text ++ more ≡ front ++ past → model.Final to_head front head framing → ⊥
+  pub no_final : (more front past : List ℕ) (head : model.Head) (framing : model.Framing) → text ++ more ≡ front ++ past
+      → model.Final to_head front head framing → ⊥
 
 -- The octets behind those that were held end before a head does, or so many of them end one.
 abbrev pub IsFrontRead : Bool → List ℕ → List ℕ → FrontRead → Type 0
-IsFrontRead to_head held octets (OnGoing text) = (text.items ≡ held ++ octets) × (length text.items ≤ 16384) × HasNoResponse text.items × MayBecomeResponse text.items
+IsFrontRead to_head held octets (OnGoing text) = (text.items ≡ held ++ octets) × (length text.items ≤ 16384) × HasNoResponse text.items
+    × MayBecomeResponse text.items
 IsFrontRead to_head held octets (InterimAt head used) = (0 < used) × (used ≤ length octets) × model.Interim (held ++ take used octets) head
 IsFrontRead to_head held octets (FinalAt head framing connections stays used) =
-    (0 < used) × (used ≤ length octets) × IsFinalRead to_head (held ++ take used octets) head (framing_view (named_by_connection connections.items) framing) stays
+    (0 < used) × (used ≤ length octets) × IsFinalRead to_head (held ++ take used octets) head
+    (framing_view (named_by_connection connections.items) framing) stays
     × (field_octets connections.items ≤ 16384)

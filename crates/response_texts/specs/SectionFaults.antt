@@ -1,7 +1,8 @@
 -- Which fault stands in the place of a head or of trailers, by the kind that is answered.
 use Rattle.std.specs.Prelude.{◌≡◌, ◌≢◌, ℕ, ◌<◌, ◌≤◌, ◌⊎◌, Bool, List, [], ◌++◌, length, take, map, None, codes}
 use Rattle.httparse.specs.Grammar as grammar
-use Rattle.httparse.specs.Grammar.{LineEnd, status_code, ReadsResponse, HasNoResponse, MayBecomeResponse, NeverHasResponse, ReadsSection, HasNoSection, MayBecomeSection, NeverHasSection}
+use Rattle.httparse.specs.Grammar.{LineEnd, status_code, ReadsResponse, HasNoResponse, MayBecomeResponse}
+use Rattle.httparse.specs.Grammar.{NeverHasResponse, ReadsSection, HasNoSection, MayBecomeSection, NeverHasSection}
 use Rattle.model.specs.Http1.{values_of}
 use Rattle.model.specs.ResponseHeads as model
 use Rattle.model.specs.ResponseHeads.{meant, framing_of, Interim}

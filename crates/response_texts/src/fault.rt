@@ -18,8 +18,8 @@ pub enum ResponseFault {
     Coding,
     /// The protocol is changed, for which nobody asked (RFC 9110, section 15.2.2).
     Upgrade,
-    /// A body in chunks that can't be continued: a chunk's line or end, or trailers that are refused (RFC 9112, section 7.1;
-    /// this project's profile).
+    /// A body in chunks that can't be continued: a chunk's line or end, or trailers that are
+    /// refused (RFC 9112, section 7.1; this project's profile).
     Chunk,
     /// Memory was refused.
     Memory,

@@ -80,7 +80,8 @@ pub fn connections(alloc: Global, fields: &[Field]) -> Result<Vec<Field>, AllocE
     Ok(found)
 }
 
-/// Whether a head of this version with these fields Connection lets its connection stay open (RFC 9112, sections 9.3 and 9.6).
+/// Whether a head of this version with these fields Connection lets its connection stay open (RFC
+/// 9112, sections 9.3 and 9.6).
 pub fn leave_open(minor: u8, connections: &[Field]) -> bool
     ensures { result ≡ (minor == 1 && not (list_any (bytes_eq (codes "close")) (named_by_connection connections.now))) }
 {
@@ -182,7 +183,8 @@ pub fn passed_back(
 
 /// Whether a field of trailers is passed back, by the fields Connection of their head and their own.
 fn is_trailing(connections: &[Field], own: &[Field], field: &Field) -> bool
-    ensures { result ≡ not (list_any (bytes_eq field.now.name) (names_not_in_trailers ++ names_of_connection ++ named_by_connection connections.now ++ named_by_connection own.now)) }
+    ensures { result ≡ not (list_any (bytes_eq field.now.name) (names_not_in_trailers ++ names_of_connection ++ named_by_connection connections.now
+        ++ named_by_connection own.now)) }
 {
     !is_kept_from_trailers(field)
         && !is_of_connection(field)
@@ -192,7 +194,8 @@ fn is_trailing(connections: &[Field], own: &[Field], field: &Field) -> bool
 
 /// Drops the fields that aren't passed back, by the fields Connection of the head and those of the trailers.
 fn keep_trailing(connections: &[Field], own: &[Field], fields: &mut Vec<Field>)
-    ensures { fields.new.items ≡ without (names_not_in_trailers ++ names_of_connection ++ named_by_connection connections.now ++ named_by_connection own.now) fields.old.items }
+    ensures { fields.new.items ≡ without (names_not_in_trailers ++ names_of_connection ++ named_by_connection connections.now
+        ++ named_by_connection own.now) fields.old.items }
 {
     fields.retain(|field| is_trailing(connections, own, field));
 }
@@ -203,7 +206,8 @@ pub fn trailing(
     connections_of_head: &[Field],
     fields: Vec<Field>,
 ) -> Result<Vec<Field>, AllocError>
-    ensures { IfOk result (λ kept. kept.items ≡ without (names_not_in_trailers ++ names_of_connection ++ named_by_connection connections_of_head.now ++ named_by_connection fields.items) fields.items) }
+    ensures { IfOk result (λ kept. kept.items ≡ without (names_not_in_trailers ++ names_of_connection ++ named_by_connection connections_of_head.now
+        ++ named_by_connection fields.items) fields.items) }
 {
     let own = connections(alloc, &fields)?;
     let mut kept = fields;

@@ -31,7 +31,8 @@ pub enum Framing {
 
 /// The value of the first field of a name.
 fn first_value<'a>(fields: &'a [Field], name: &[u8]) -> Option<&'a [u8]>
-    ensures { MatchOption result (values_of name.now fields.now ≡ []) (λ value. (others : List (List ℕ)) × (values_of name.now fields.now ≡ value.now ∷ others)) }
+    ensures { MatchOption result (values_of name.now fields.now ≡ []) (λ value. (others : List (List ℕ))
+        × (values_of name.now fields.now ≡ value.now ∷ others)) }
 {
     match fields {
         [] => None,
@@ -81,7 +82,10 @@ fn is_chunked(minor: u8, coding: &[u8]) -> bool
 
 /// What the lines content-length say (RFC 9112, section 6.3), of which one has these digits.
 fn sized(fields: &[Field], digits: &[u8]) -> Result<Framing, ResponseFault>
-    ensures { MatchResult result (λ framing. (is_length digits.now && list_all (bytes_eq digits.now) (values_of (codes "content-length") fields.now) ≡ true) × ((named : List (List ℕ)) → framing_view named framing ≡ Sized (digits_value 10 digits.now))) (λ fault. (is_length digits.now && list_all (bytes_eq digits.now) (values_of (codes "content-length") fields.now) ≡ false) × (fault ≡ ResponseFault.Length)) }
+    ensures { MatchResult result (λ framing. (is_length digits.now && list_all (bytes_eq digits.now) (values_of (codes "content-length") fields.now) ≡ true)
+        × ((named : List (List ℕ)) → framing_view named framing ≡ Sized (digits_value 10 digits.now)))
+        (λ fault. (is_length digits.now && list_all (bytes_eq digits.now) (values_of (codes "content-length") fields.now) ≡ false)
+        × (fault ≡ ResponseFault.Length)) }
 {
     if !is_length(digits) {
         return Err(ResponseFault::Length);
@@ -92,10 +96,13 @@ fn sized(fields: &[Field], digits: &[u8]) -> Result<Framing, ResponseFault>
     Ok(Framing::Sized(number(digits)))
 }
 
-/// What the lines content-length and transfer-encoding say of the body, in HTTP/1.0 or HTTP/1.1 (RFC 9112, sections 6.1 to
-/// 6.3).
+/// What the lines content-length and transfer-encoding say of the body, in HTTP/1.0 or HTTP/1.1
+/// (RFC 9112, sections 6.1 to 6.3).
 fn framed_by(minor: u8, fields: &[Field]) -> Result<Framing, ResponseFault>
-    ensures { MatchResult result (λ framing. framed_by (named_by_connection fields.now) minor (values_of (codes "content-length") fields.now) (values_of (codes "transfer-encoding") fields.now) ≡ Some (framing_view (named_by_connection fields.now) framing)) (λ fault. (framed_by (named_by_connection fields.now) minor (values_of (codes "content-length") fields.now) (values_of (codes "transfer-encoding") fields.now) ≡ None) × (fault ≡ framing_fault (values_of (codes "transfer-encoding") fields.now))) }
+    ensures { MatchResult result (λ framing. framed_by (named_by_connection fields.now) minor (values_of (codes "content-length") fields.now)
+        (values_of (codes "transfer-encoding") fields.now) ≡ Some (framing_view (named_by_connection fields.now) framing))
+        (λ fault. (framed_by (named_by_connection fields.now) minor (values_of (codes "content-length") fields.now)
+        (values_of (codes "transfer-encoding") fields.now) ≡ None) × (fault ≡ framing_fault (values_of (codes "transfer-encoding") fields.now))) }
 {
     let coding = first_value(fields, b"transfer-encoding");
     let digits = first_value(fields, b"content-length");
@@ -123,7 +130,8 @@ pub fn framing_of(
     status: u16,
     fields: &[Field],
 ) -> Result<Framing, ResponseFault>
-    ensures { MatchResult result (λ framing. framing_for to_head minor status fields.now ≡ Some (framing_view (named_by_connection fields.now) framing)) (λ fault. (framing_for to_head minor status fields.now ≡ None) × (fault ≡ framing_fault (values_of (codes "transfer-encoding") fields.now))) }
+    ensures { MatchResult result (λ framing. framing_for to_head minor status fields.now ≡ Some (framing_view (named_by_connection fields.now) framing))
+        (λ fault. (framing_for to_head minor status fields.now ≡ None) × (fault ≡ framing_fault (values_of (codes "transfer-encoding") fields.now))) }
 {
     if status == 204 {
         return Ok(Framing::Bodiless);

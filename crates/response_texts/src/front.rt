@@ -28,7 +28,8 @@ pub enum FrontRead {
     FinalAt(ResponseHead, Framing, Vec<Field>, bool, usize),
 }
 
-/// Reads the head at the front of at most 16,384 octets, with room for some fields, and for all where these are too few.
+/// Reads the head at the front of at most 16,384 octets, with room for some fields, and for all
+/// where these are too few.
 fn read_text(
     alloc: Global,
     to_head: bool,
@@ -85,7 +86,8 @@ fn read_behind(
 ) -> Result<FrontRead, ResponseFault>
     requires short { length held.items ≤ 16384 }
     requires none { HasNoResponse held.items }
-    ensures { MatchResult result (IsFrontRead to_head held.items octets.now) (λ fault. fault ≢ ResponseFault.Memory → HeadFault fault to_head 0 (held.items ++ octets.now)) }
+    ensures { MatchResult result (IsFrontRead to_head held.items octets.now) (λ fault. fault ≢ ResponseFault.Memory
+        → HeadFault fault to_head 0 (held.items ++ octets.now)) }
 {
     let before = held.len();
     let taken = octets.len().min(LONGEST_SECTION - before);
@@ -106,8 +108,8 @@ fn read_behind(
     }
 }
 
-/// Reads the head at the front of the octets that were held and those that follow them. Where none were held it is read where it
-/// stands, and only less than a head is copied.
+/// Reads the head at the front of the octets that were held and those that follow them. Where none
+/// were held it is read where it stands, and only less than a head is copied.
 pub fn read_front(
     alloc: Global,
     to_head: bool,
@@ -117,7 +119,8 @@ pub fn read_front(
 ) -> Result<FrontRead, ResponseFault>
     requires short { length held.items ≤ 16384 }
     requires none { HasNoResponse held.items }
-    ensures { MatchResult result (IsFrontRead to_head held.items octets.now) (λ fault. fault ≢ ResponseFault.Memory → HeadFault fault to_head 0 (held.items ++ octets.now)) }
+    ensures { MatchResult result (IsFrontRead to_head held.items octets.now) (λ fault. fault ≢ ResponseFault.Memory
+        → HeadFault fault to_head 0 (held.items ++ octets.now)) }
 {
     if held.is_empty() {
         return read_there(alloc, to_head, octets, spans);

@@ -50,8 +50,8 @@ pub fn fields_at(alloc: Global, text: &[u8], lines: &[HeaderSpan]) -> Result<Vec
     Ok(fields)
 }
 
-/// Reads the head at the front of at most 16,384 octets, of a response to HEAD or to another method; none where there is too
-/// little room for its fields.
+/// Reads the head at the front of at most 16,384 octets, of a response to HEAD or to another
+/// method; none where there is too little room for its fields.
 pub fn read_head(
     alloc: Global,
     to_head: bool,
@@ -59,7 +59,8 @@ pub fn read_head(
     spans: &mut [HeaderSpan],
 ) -> Option<Result<HeadRead, ResponseFault>>
     requires { length text.now ≤ 16384 }
-    ensures { MatchOption result (length spans.old < 5462) (λ found. MatchResult found (IsHeadRead to_head text.now) (λ fault. fault ≢ ResponseFault.Memory → HeadFault fault to_head 0 text.now)) }
+    ensures { MatchOption result (length spans.old < 5462) (λ found. MatchResult found (IsHeadRead to_head text.now) (λ fault. fault ≢ ResponseFault.Memory
+        → HeadFault fault to_head 0 text.now)) }
 {
     match parse_response(text, spans) {
         Ok(Status::Complete(found)) => Some(take_head(alloc, to_head, text, spans, found)),

@@ -1,5 +1,6 @@
-//! Parts of the text of an HTTP/1.1 response (RFC 9112): its head, how the body is framed behind it, the first line of a chunk, and
-//! trailers. Each is read from octets at their front; `h1_reader` goes from one to the next. The tests of both stand in `http1_tests`.
+//! Parts of the text of an HTTP/1.1 response (RFC 9112): its head, how the body is framed behind
+//! it, the first line of a chunk, and trailers. Each is read from octets at their front;
+//! `h1_reader` goes from one to the next. The tests of both stand in `http1_tests`.
 #![tactic(auto)]
 
 mod chunk_line;

@@ -6,8 +6,9 @@ ghost use Rattle.response_texts.specs.HeadSizes.{CanBePassedBack, CanTrail};
 use hpack_table::Field;
 use std::marker::Model;
 
-/// A head as it is passed back: its status, and its fields with names in lower case (RFC 9110, section 7.6.1). None of them is a
-/// pseudo-field, and their names and values have at most 16,384 octets.
+/// A head as it is passed back: its status, and its fields with names in lower case (RFC 9110,
+/// section 7.6.1). None of them is a pseudo-field, and their names and values have at most 16,384
+/// octets.
 #[derive(Drop)]
 pub struct ResponseHead {
     status: u16,
@@ -27,8 +28,8 @@ impl Model for ResponseHead {
 }
 
 impl ResponseHead {
-    /// The head of this status, of three digits at most, and these fields, of which none is a pseudo-field, and whose names and values have at most
-    /// 16,384 octets.
+    /// The head of this status, of three digits at most, and these fields, of which none is a
+    /// pseudo-field, and whose names and values have at most 16,384 octets.
     pub fn new(status: u16, fields: Vec<Field>) -> Self
         requires { CanBePassedBack (record { status = status; fields = fields.items }) }
         ensures status { result.status ≡ status }
@@ -60,8 +61,8 @@ impl ResponseHead {
     }
 }
 
-/// Trailers as they are passed back, of which there are some, with names in lower case. None of them is a pseudo-field, and their names and
-/// values have at most 16,384 octets.
+/// Trailers as they are passed back, of which there are some, with names in lower case. None of
+/// them is a pseudo-field, and their names and values have at most 16,384 octets.
 #[derive(Drop)]
 pub struct Trailers {
     lines: Vec<Field>,
@@ -81,7 +82,8 @@ impl Model for Trailers {
 }
 
 impl Trailers {
-    /// These fields, of which there are some, none is a pseudo-field, and whose names and values have at most 16,384 octets.
+    /// These fields, of which there are some, none is a pseudo-field, and whose names and values
+    /// have at most 16,384 octets.
     pub fn new(lines: Vec<Field>) -> Self
         requires { CanTrail lines.items }
         ensures { result ≡ lines.items }

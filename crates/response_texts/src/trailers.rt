@@ -28,7 +28,7 @@ pub enum TrailersRead {
 
 /// Trailers at the front of octets.
 #[derive(Drop)]
-pub struct Found {
+pub struct FoundTrailers {
     /// Those that are passed back.
     pub trailers: Vec<Field>,
     /// The octets that all of them take.
@@ -43,30 +43,32 @@ fn take_trailers(
     spans: &[HeaderSpan],
     used: usize,
     count: usize,
-) -> Result<Option<Found>, ResponseFault>
+) -> Result<Option<FoundTrailers>, ResponseFault>
     requires short { length text.now ≤ 16384 }
     requires within { IsSectionWithin text.now spans.now used count }
     requires are { IsSectionOf text.now 0 spans.now (used, count) }
-    ensures { MatchResult result (AreTrailersAt (named_by_connection connections.now) text.now) (λ fault. fault ≢ ResponseFault.Memory → TrailerFault fault text.now) }
+    ensures { MatchResult result (AreTrailersAt (named_by_connection connections.now) text.now) (λ fault. fault ≢ ResponseFault.Memory
+        → TrailerFault fault text.now) }
 {
     if count > MOST_FIELDS {
         return Err(ResponseFault::Chunk);
     }
     let all = fields_at(alloc, text, &spans[..count])?;
     let trailers = trailing(alloc, connections, all)?;
-    Ok(Some(Found { trailers, used }))
+    Ok(Some(FoundTrailers { trailers, used }))
 }
 
-/// The trailers at the front of at most 16,384 octets, none where they may still become trailers; nothing where there is too little
-/// room for their fields.
+/// The trailers at the front of at most 16,384 octets, none where they may still become trailers;
+/// nothing where there is too little room for their fields.
 fn trailers_at(
     alloc: Global,
     connections: &[Field],
     text: &[u8],
     spans: &mut [HeaderSpan],
-) -> Option<Result<Option<Found>, ResponseFault>>
+) -> Option<Result<Option<FoundTrailers>, ResponseFault>>
     requires { length text.now ≤ 16384 }
-    ensures { MatchOption result (length spans.old < 5462) (λ found. MatchResult found (AreTrailersAt (named_by_connection connections.now) text.now) (λ fault. fault ≢ ResponseFault.Memory → TrailerFault fault text.now)) }
+    ensures { MatchOption result (length spans.old < 5462) (λ found. MatchResult found (AreTrailersAt (named_by_connection connections.now) text.now)
+        (λ fault. fault ≢ ResponseFault.Memory → TrailerFault fault text.now)) }
 {
     match parse_headers(text, spans) {
         Ok(Status::Complete((used, count))) => {
@@ -86,9 +88,10 @@ fn trailers_in(
     connections: &[Field],
     text: &[u8],
     spans: &mut Vec<HeaderSpan>,
-) -> Result<Option<Found>, ResponseFault>
+) -> Result<Option<FoundTrailers>, ResponseFault>
     requires { length text.now ≤ 16384 }
-    ensures { MatchResult result (AreTrailersAt (named_by_connection connections.now) text.now) (λ fault. fault ≢ ResponseFault.Memory → TrailerFault fault text.now) }
+    ensures { MatchResult result (AreTrailersAt (named_by_connection connections.now) text.now) (λ fault. fault ≢ ResponseFault.Memory
+        → TrailerFault fault text.now) }
 {
     make_room(alloc, spans, SOME_FIELDS)?;
     if let Some(found) = trailers_at(alloc, connections, text, spans) {
@@ -101,7 +104,8 @@ fn trailers_in(
     }
 }
 
-/// Reads the trailers at the front of the octets that were held and those that follow them, by the fields Connection of their head.
+/// Reads the trailers at the front of the octets that were held and those that follow them, by the
+/// fields Connection of their head.
 pub fn read_trailers(
     alloc: Global,
     connections: &[Field],
@@ -111,7 +115,8 @@ pub fn read_trailers(
 ) -> Result<TrailersRead, ResponseFault>
     requires short { length held.items ≤ 16384 }
     requires none { HasNoSection held.items }
-    ensures { MatchResult result (AreTrailersRead (named_by_connection connections.now) held.items octets.now) (λ fault. fault ≢ ResponseFault.Memory → TrailerFault fault (held.items ++ octets.now)) }
+    ensures { MatchResult result (AreTrailersRead (named_by_connection connections.now) held.items octets.now) (λ fault. fault ≢ ResponseFault.Memory
+        → TrailerFault fault (held.items ++ octets.now)) }
 {
     let before = held.len();
     let taken = octets.len().min(LONGEST_SECTION - before);

@@ -9,9 +9,9 @@ ghost use Rattle.scheduler.specs.Least.{IsLeastAbove};
 pub struct Turn;
 
 impl Turn {
-    /// The stream whose turn is next behind that of `last`, the id of the stream that had the turn before, or 0: the least
-    /// id of `ready` above it, else the least of all (this project's profile). There is none just where `ready` is empty.
-    /// The ids may stand in any order.
+    /// The stream whose turn is next behind that of `last`, the id of the stream that had the turn
+    /// before, or 0: the least id of `ready` above it, else the least of all (this project's
+    /// profile). There is none just where `ready` is empty. The ids may stand in any order.
     pub fn next(last: u32, ready: &[u32]) -> Option<u32>
         ensures { IsNextTurn last ready.now result }
     {

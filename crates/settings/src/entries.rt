@@ -3,7 +3,8 @@
 ghost use Rattle.std.specs.Prelude.{◌≡◌, List, [], ◌∷◌, MatchOption};
 ghost use Rattle.std.specs.List.{last_or};
 ghost use Rattle.std.specs.Option.{option_map};
-ghost use Rattle.model.specs.SettingValues.{Setting, settings_in, fault_of_setting, first_fault, values_of, last_value, smallest_value, initial_window_size, header_table_size};
+ghost use Rattle.model.specs.SettingValues.{Setting, settings_in, fault_of_setting, first_fault, values_of, last_value};
+ghost use Rattle.model.specs.SettingValues.{smallest_value, initial_window_size, header_table_size};
 ghost use Rattle.settings.specs.Accumulated.{smallest_with};
 ghost use Rattle.settings.specs.Views.{setting_of, fault_of, IsFirstEntry};
 
@@ -93,9 +94,12 @@ pub fn values_in(payload: &[u8]) -> Values
 
 /// The values behind one entry more.
 fn with_entry(values: Values, entry: Entry) -> Values
-    ensures window { (later : List Setting) → last_or result.initial_window (values_of initial_window_size later) ≡ last_or values.initial_window (values_of initial_window_size (setting_of entry ∷ later)) }
-    ensures smallest { (later : List Setting) → smallest_with result.smallest_table (values_of header_table_size later) ≡ smallest_with values.smallest_table (values_of header_table_size (setting_of entry ∷ later)) }
-    ensures last { (later : List Setting) → last_or result.last_table (values_of header_table_size later) ≡ last_or values.last_table (values_of header_table_size (setting_of entry ∷ later)) }
+    ensures window { (later : List Setting) → last_or result.initial_window (values_of initial_window_size later)
+        ≡ last_or values.initial_window (values_of initial_window_size (setting_of entry ∷ later)) }
+    ensures smallest { (later : List Setting) → smallest_with result.smallest_table (values_of header_table_size later)
+        ≡ smallest_with values.smallest_table (values_of header_table_size (setting_of entry ∷ later)) }
+    ensures last { (later : List Setting) → last_or result.last_table (values_of header_table_size later)
+        ≡ last_or values.last_table (values_of header_table_size (setting_of entry ∷ later)) }
 {
     let value = entry.value;
     match entry.identifier {

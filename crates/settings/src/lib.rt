@@ -78,12 +78,13 @@ impl Default for Settings {
 impl Settings {
     ghost use Rattle.settings.specs.Views.{fault_of, IsChange};
 
-    /// Judges the entries of a SETTINGS payload in order, and says what they would change, while nothing changes yet (RFC
-    /// 9113, sections 6.5.2 and 6.5.3). Identifiers that aren't known are ignored. So a caller can see whether the windows
-    /// of its streams allow the difference, before it calls `accept`.
+    /// Judges the entries of a SETTINGS payload in order, and says what they would change, while
+    /// nothing changes yet (RFC 9113, sections 6.5.2 and 6.5.3). Identifiers that aren't known are
+    /// ignored. So a caller can see whether the windows of its streams allow the difference, before
+    /// it calls `accept`.
     ///
-    /// `Size` comes just where the length isn't a multiple of six, whatever the entries say; else the first entry with a
-    /// fault decides.
+    /// `Size` comes just where the length isn't a multiple of six, whatever the entries say; else
+    /// the first entry with a fault decides.
     pub fn check(&self, payload: &[u8]) -> Result<Checked, SettingFault>
         ensures ok { IfOk result (λ checked. IsChange self.now checked.initial_window (settings_in payload.now) checked.change) }
         ensures faultless { OnOk result (settings_fault payload.now ≡ None) }
@@ -121,11 +122,11 @@ impl Settings {
         self.initial_window = checked.initial_window;
     }
 
-    /// Applies the entries of a SETTINGS payload in order, and says what they change, as `check` and `accept` do one after
-    /// the other (RFC 9113, sections 6.5.2 and 6.5.3).
+    /// Applies the entries of a SETTINGS payload in order, and says what they change, as `check`
+    /// and `accept` do one after the other (RFC 9113, sections 6.5.2 and 6.5.3).
     ///
-    /// `Size` comes just where the length isn't a multiple of six, whatever the entries say; else the first entry with a
-    /// fault decides. A refusal changes nothing.
+    /// `Size` comes just where the length isn't a multiple of six, whatever the entries say; else
+    /// the first entry with a fault decides. A refusal changes nothing.
     pub fn apply(&mut self, payload: &[u8]) -> Result<Change, SettingFault>
         ensures ok { IfOk result (λ change. IsChange self.old self.new (settings_in payload.now) change) }
         ensures faultless { OnOk result (settings_fault payload.now ≡ None) }

@@ -3,17 +3,17 @@ use Rattle.std.proofs.Common.{◌≡◌, ◌≤◌, ◌<◌, ◌==◌, ◌||◌,
 use Rattle.std.specs.Prelude.{Bool, Option, None, Some, IfSome, IfOk, min, false, true, if◌then◌else◌}
 use Rattle.std.specs.declared.io.Error.{Error}
 use Rattle.std.proofs.lemmas.Bool.Decides.{nat_tests}
-use Rattle.transfers.specs.Transfers.{Gives}
-use Rattle.transfers.specs.declared.incoming.Got.{Got}
-use Rattle.transfers.specs.declared.incoming.Got.TheVariants.{Octets, Nothing, End}
-use Rattle.outputs.specs.declared.events.Event.{Event}
-use Rattle.outputs.specs.declared.events.Event.TheVariants.{Client, ClientEnd, ClientTook, Up, UpEnd, UpFailed, UpTook}
+use Rattle.socket_io.specs.Transfers.{Gives}
+use Rattle.socket_io.specs.declared.incoming.Got.{Got}
+use Rattle.socket_io.specs.declared.incoming.Got.TheVariants.{Octets, Nothing, End}
+use Rattle.effects.specs.declared.events.Event.{Event}
+use Rattle.effects.specs.declared.events.Event.TheVariants.{Client, ClientEnd, ClientTook, Up, UpEnd, UpFailed, UpTook}
 use Rattle.sockets.specs.declared.side.Side.{Side}
 use Rattle.sockets.specs.declared.upstream.Upstream.{Upstream}
 use Rattle.sockets.specs.Rooms.{room_in}
-use Rattle.worlds.specs.Worlds.{HasRoom, KeepsRooms}
-use Rattle.worlds.specs.declared.world.Next.TheVariants.{Happened}
-use Rattle.worlds.specs.declared.world.WorldFault.{WorldFault}
+use Rattle.driver.specs.Worlds.{HasRoom, KeepsRooms}
+use Rattle.driver.specs.declared.world.Next.TheVariants.{Happened}
+use Rattle.driver.specs.declared.world.WorldFault.{WorldFault}
 use Rattle.sockets.specs.Sides.{IsOf, Goes, Tells, lost_news}
 use Rattle.sockets.specs.Performed.{FitsRoom, Fits, IsWithin, MovesOn, client_heard, got_news}
 use Rattle.sockets.proofs.Moving.{told_lost, all_still}

@@ -4,14 +4,14 @@ use Rattle.std.specs.Prelude.{Bool, ◌||◌, ◌&&◌, ◌≤◌, ◌↔◌, no
 use Rattle.std.specs.Io.KnownBytes.{Consumes}
 use Rattle.std.specs.List.{remove}
 use Rattle.std.specs.declared.io.Error.{Error}
-use Rattle.transfers.specs.Transfers.{Gives, told}
-use Rattle.transfers.specs.declared.incoming.Got.{Got}
-use Rattle.transfers.specs.declared.incoming.Got.TheVariants.{Octets, Nothing, End}
+use Rattle.socket_io.specs.Transfers.{Gives, told}
+use Rattle.socket_io.specs.declared.incoming.Got.{Got}
+use Rattle.socket_io.specs.declared.incoming.Got.TheVariants.{Octets, Nothing, End}
 use Rattle.sockets.specs.Putting.{Passes}
 use Rattle.mio.specs.Interest.{is_readable}
-use Rattle.outputs.specs.declared.events.Event.{Event}
-use Rattle.outputs.specs.declared.events.Event.TheVariants.{Client, ClientEnd, ClientTook, Up, UpEnd, UpFailed, UpTook}
-use Rattle.worlds.specs.declared.world.WorldFault.{WorldFault}
+use Rattle.effects.specs.declared.events.Event.{Event}
+use Rattle.effects.specs.declared.events.Event.TheVariants.{Client, ClientEnd, ClientTook, Up, UpEnd, UpFailed, UpTook}
+use Rattle.driver.specs.declared.world.WorldFault.{WorldFault}
 use Rattle.sockets.specs.declared.side.Side.{Side}
 use Rattle.sockets.specs.declared.upstream.Upstream.{Upstream}
 use Rattle.mio.specs.declared.event.event.Event.{Event as Report}

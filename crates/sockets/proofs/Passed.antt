@@ -3,10 +3,10 @@ use Rattle.std.proofs.Common.{◌≡◌, ◌<◌, ◌+◌, ◌-◌, ◌++◌, �
 use Rattle.std.proofs.lemmas.Grind.{common_steps}
 use Rattle.std.specs.Prelude.{Bool, true, false, if◌then◌else◌, nat_lt, Option, None, Some, OnOk}
 use Rattle.std.specs.Io.KnownBytes.{Appends, Consumes, Keeps, IsAtEnd}
-use Rattle.transfers.specs.Transfers as transfers
-use Rattle.transfers.specs.Transfers.{Way, told, told_count, Loses, IsSocketFault, IsMemoryFault}
-use Rattle.transfers.specs.declared.outgoing.PutFault.{PutFault}
-use Rattle.transfers.specs.declared.outgoing.PutFault.TheVariants.{Socket, Memory}
+use Rattle.socket_io.specs.Transfers as transfers
+use Rattle.socket_io.specs.Transfers.{Way, told, told_count, Loses, IsSocketFault, IsMemoryFault}
+use Rattle.socket_io.specs.declared.outgoing.PutFault.{PutFault}
+use Rattle.socket_io.specs.declared.outgoing.PutFault.TheVariants.{Socket, Memory}
 use Rattle.sockets.specs.Putting.{Passes, PassesFront}
 use Rattle.sockets.specs.Sides.{Reads}
 

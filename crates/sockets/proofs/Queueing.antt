@@ -6,7 +6,7 @@ use Rattle.std.specs.List.{Contains, filter, insert, list_any, remove}
 use Rattle.std.specs.List.Sorted.{IsPartitionPoint}
 use Rattle.std.proofs.lemmas.List.Elements.{Contains-append_left, Contains-append_right, Contains-push}
 use Rattle.std.proofs.lemmas.List.Folds.{list_any_at}
-use Rattle.transfers.specs.Transfers.{Way, told}
+use Rattle.socket_io.specs.Transfers.{Way, told}
 use Rattle.sockets.specs.Sides.{may_be_ready, out_of, owes, side_told}
 use Rattle.sockets.specs.Performed.{AreRising, IsOpenNowhere}
 use Rattle.sockets.specs.Queues.{Grows, took_untold, IsMarked, IsListed, AllListed, IsClientListed, AreQueued, is_clients, client_last}

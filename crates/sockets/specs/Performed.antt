@@ -3,16 +3,16 @@ use Rattle.std.specs.Prelude.{◌≡◌, ◌<◌, ◌≤◌, ◌⊎◌, ℕ, Boo
 use Rattle.std.specs.List.Sorted.{IsNonDecreasingBy}
 use Rattle.std.specs.declared.net.socket_addr.SocketAddr.{SocketAddr}
 use Rattle.model.specs.Logs.{Step}
-use Rattle.outputs.specs.declared.events.Event.{Event}
-use Rattle.outputs.specs.declared.events.Event.TheVariants as event
-use Rattle.outputs.specs.declared.events.Output.{Output}
-use Rattle.outputs.specs.declared.events.Output.TheVariants.{Client, Open, Up, Close, CloseClient}
-use Rattle.worlds.specs.Worlds.{Handed}
-use Rattle.worlds.specs.declared.world.Next.{Next}
-use Rattle.worlds.specs.declared.world.Next.TheVariants.{Happened, Nothing, Over}
-use Rattle.worlds.specs.declared.world.WorldFault.{WorldFault}
-use Rattle.transfers.specs.declared.incoming.Got.{Got}
-use Rattle.transfers.specs.declared.incoming.Got.TheVariants as got
+use Rattle.effects.specs.declared.events.Event.{Event}
+use Rattle.effects.specs.declared.events.Event.TheVariants as event
+use Rattle.effects.specs.declared.events.Output.{Output}
+use Rattle.effects.specs.declared.events.Output.TheVariants.{Client, Open, Up, Close, CloseClient}
+use Rattle.driver.specs.Worlds.{Handed}
+use Rattle.driver.specs.declared.world.Next.{Next}
+use Rattle.driver.specs.declared.world.Next.TheVariants.{Happened, Nothing, Over}
+use Rattle.driver.specs.declared.world.WorldFault.{WorldFault}
+use Rattle.socket_io.specs.declared.incoming.Got.{Got}
+use Rattle.socket_io.specs.declared.incoming.Got.TheVariants as got
 use Rattle.sockets.specs.Rooms.{room_in}
 use Rattle.sockets.specs.Sides.{News, no_news, lost_news, came_news, end_news, put_news, took_news, Goes, GoesTo, GoesOn, GoesFront, SendsFront, IsNew, is_deaf}
 use Rattle.sockets.specs.declared.side.Side.{Side}
@@ -158,12 +158,16 @@ module _ {S : Type 0} (left held : S → Option (List ℕ)) where
   abbrev pub SendsTo : ℕ → List ℕ → List (Upstream S) → List (Upstream S) → Type 0
   SendsTo k octets old new = (IsOpenNowhere k old × (new ≡ old)) ⊎ Changes k (Sends octets) old new
 
-  -- What an output does to the client's socket and to the open connections, in the world of the client with this number. They are found by their numbers, which rise. A connection is opened to the address
-  -- of its route.
+  -- What an output does to the client's socket and to the open connections, in the world of the
+  -- client with this number. They are found by their numbers, which rise. A connection is opened to
+  -- the address of its route.
   abbrev pub Performs : ℕ → List SocketAddr → Output → Side S → List (Upstream S) → Side S → List (Upstream S) → Type 0
-  Performs number addresses (Client octets) client upstreams client' upstreams' = Goes left held (put_news octets.items) client client' × (upstreams' ≡ upstreams)
-  Performs number addresses (Open k route) client upstreams client' upstreams' = (client' ≡ client) × Opens (IsNew number k (slice_get addresses route)) upstreams upstreams'
-  Performs number addresses (Up k octets) client upstreams client' upstreams' = (client' ≡ client) × (AreRising upstreams → SendsTo k octets upstreams upstreams')
+  Performs number addresses (Client octets) client upstreams client' upstreams' = Goes left held (put_news octets.items) client client'
+      × (upstreams' ≡ upstreams)
+  Performs number addresses (Open k route) client upstreams client' upstreams' = (client' ≡ client)
+      × Opens (IsNew number k (slice_get addresses route)) upstreams upstreams'
+  Performs number addresses (Up k octets) client upstreams client' upstreams' = (client' ≡ client)
+      × (AreRising upstreams → SendsTo k octets upstreams upstreams')
   Performs number addresses (Close k) client upstreams client' upstreams' = (client' ≡ client) × (AreRising upstreams → Closes k upstreams upstreams')
   Performs number addresses CloseClient client upstreams client' upstreams' = Goes left held no_news client client' × (upstreams' ≡ upstreams)
 
@@ -203,7 +207,8 @@ module _ {S : Type 0} (left held : S → Option (List ℕ)) where
 
   -- What is left where the world looked for an event, by what it answers: what became of the client's socket and of each connection is what the event
   -- tells, and else they are as they were, but that of what waits for each its socket may have taken a front.
-  pub record MovesOn (answer : Result (Option Event) WorldFault) (client : Side S) (upstreams : List (Upstream S)) (client' : Side S) (upstreams' : List (Upstream S)) : Type 0 where
+  pub record MovesOn (answer : Result (Option Event) WorldFault) (client : Side S) (upstreams : List (Upstream S)) (client' : Side S)
+      (upstreams' : List (Upstream S)) : Type 0 where
     pub client_is : Goes left held (client_told answer) client client'
     pub others : OthersGoOn answer upstreams upstreams'
 

@@ -1,7 +1,7 @@
 -- Octets that are put out to a socket, and what it took.
 use Rattle.std.specs.Prelude.{◌≡◌, ◌≤◌, ◌+◌, ◌-◌, ◌^◌, ℕ, List, Option, ◌++◌, length, min}
 use Rattle.std.specs.Io.KnownBytes.{Appends}
-use Rattle.transfers.specs.Transfers.{Way}
+use Rattle.socket_io.specs.Transfers.{Way}
 
 -- Octets are put out behind those that wait: of all these a front is written, no other octets are, and the rest waits, in order. What is written counts as
 -- taken, and so many of all that were taken are told of; that number stops at 2^64 - 1. Known octets of the socket are those that it had, and then those.

@@ -1,8 +1,8 @@
 -- Which sockets stand among those of which something may be read, and which upstreams among those of which it may have to be told what they took.
 use Rattle.std.specs.Prelude.{◌≡◌, ◌<◌, ◌++◌, ◌&&◌, ◌==◌, ℕ, Bool, true, false, not, nat_lt, if◌then◌else◌, List, [], ◌∷◌, length, Option, None, Some, ⊤}
 use Rattle.std.specs.List.{Contains, filter, list_any}
-use Rattle.outputs.specs.declared.events.Output.{Output}
-use Rattle.outputs.specs.declared.events.Output.TheVariants.{Open}
+use Rattle.effects.specs.declared.events.Output.{Output}
+use Rattle.effects.specs.declared.events.Output.TheVariants.{Open}
 use Rattle.sockets.specs.Sides.{may_be_ready}
 use Rattle.sockets.specs.Performed.{IsOpenNowhere}
 use Rattle.sockets.specs.declared.side.Side.{Side}

@@ -1,5 +1,6 @@
 -- What is known of a socket and of a connection to an upstream, and how it changes.
-use Rattle.std.specs.Prelude.{◌≡◌, ◌+◌, ◌||◌, ◌&&◌, ℕ, Bool, true, false, not, nat_lt, if◌then◌else◌, List, [], length, Option, None, Some, Result, Ok, Err, IsErr, IfSome, ⊤}
+use Rattle.std.specs.Prelude.{◌≡◌, ◌+◌, ◌||◌, ◌&&◌, ℕ, Bool, true, false, not, nat_lt, if◌then◌else◌, List, [], length}
+use Rattle.std.specs.Prelude.{Option, None, Some, Result, Ok, Err, IsErr, IfSome, ⊤}
 use Rattle.std.specs.Io.KnownBytes.{Consumes, IsAtEnd}
 use Rattle.std.specs.IoError.{error_kind}
 use Rattle.std.specs.declared.io.Error.{Error}
@@ -8,14 +9,14 @@ use Rattle.std.specs.declared.net.socket_addr.SocketAddr.{SocketAddr}
 use Rattle.mio.specs.Event.{is_readable, is_writable, is_error, is_read_closed, is_write_closed}
 use Rattle.mio.specs.Interest as interest
 use Rattle.mio.specs.declared.event.event.Event.{Event}
-use Rattle.outputs.specs.declared.events.Event.{Event as Heard}
-use Rattle.outputs.specs.declared.events.Event.TheVariants.{Up, UpEnd, UpFailed}
+use Rattle.effects.specs.declared.events.Event.{Event as Heard}
+use Rattle.effects.specs.declared.events.Event.TheVariants.{Up, UpEnd, UpFailed}
 use Rattle.sockets.specs.declared.side.Side.{Side}
 use Rattle.sockets.specs.declared.upstream.Upstream.{Upstream}
-use Rattle.transfers.specs.Transfers.{Way, nothing_put, told, told_count}
-use Rattle.transfers.specs.declared.incoming.Got.{Got}
-use Rattle.transfers.specs.declared.incoming.Got.TheVariants.{Octets, Nothing, End}
-use Rattle.worlds.specs.declared.world.WorldFault.{WorldFault}
+use Rattle.socket_io.specs.Transfers.{Way, nothing_put, told, told_count}
+use Rattle.socket_io.specs.declared.incoming.Got.{Got}
+use Rattle.socket_io.specs.declared.incoming.Got.TheVariants.{Octets, Nothing, End}
+use Rattle.driver.specs.declared.world.WorldFault.{WorldFault}
 use Rattle.sockets.specs.Putting.{Passes, PassesFront}
 use Rattle.sockets.specs.Tokens.{token_number}
 
@@ -169,7 +170,8 @@ pub record IsBegun {S : Type 0} (token : ℕ) (side : Side S) : Type 0 where
   pub nothing : side.out ≡ nothing_put
   pub unread : side.ended ≡ false
 
--- An upstream of the client with this number is new: it is connected to this address, if there is one and a socket could be made, under its own token. Nothing was put out for it, and none of its
+-- An upstream of the client with this number is new: it is connected to this address, if there is
+-- one and a socket could be made, under its own token. Nothing was put out for it, and none of its
 -- writes failed.
 pub record IsNew {S : Type 0} (client k : ℕ) (address : Option SocketAddr) (upstream : Upstream S) : Type 0 where
   pub number : upstream.k ≡ k

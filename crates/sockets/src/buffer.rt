@@ -1,18 +1,18 @@
 //! Where octets are read to.
 
 ghost use Rattle.std.specs.Prelude.{◌≡◌, ◌↔◌, length, false, min, vec_len, IfOk, IfSome, IsTrue, OnErr, OnOk};
-ghost use Rattle.transfers.specs.Transfers.{Gives};
+ghost use Rattle.socket_io.specs.Transfers.{Gives};
 ghost use Rattle.sockets.specs.Sides.{lost_news, may_go_on, out_of, IsOf, GoesOn};
 ghost use Rattle.sockets.specs.Performed.{GoesBy, FitsRoom};
 
 use crate::side::Side;
 use crate::upstream::Upstream;
 use crate::wire::Wire;
+use driver::WorldFault;
 use gateway::Event;
+use socket_io::Got;
 use std::alloc::{AllocError, Global};
 use std::io;
-use transfers::Got;
-use worlds::WorldFault;
 
 /// The most octets that come in one event.
 const PIECE: usize = 65536;

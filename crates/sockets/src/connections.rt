@@ -1,7 +1,10 @@
-//! The sockets of one client and of the upstreams that are opened for it: who is read next, what was taken, and what an output does.
+//! The sockets of one client and of the upstreams that are opened for it: who is read next, what
+//! was taken, and what an output does.
 
-ghost use Rattle.std.specs.Prelude.{◌≡◌, ◌+◌, ◌<◌, ℕ, None, Option, Some, Ok, Err, [], false, true, List, IfSome, IfOk, IsOkAnd, OnOk, OnErr, ◌&&◌, ◌||◌, not, slice_get};
-ghost use Rattle.sockets.specs.Performed.{AreRising, IsOpenNowhere, Opens, Changes, SendsTo, Performs, Leaves, MovesOn, Fits, client_heard, got_news, IsWithin, is_failed};
+ghost use Rattle.std.specs.Prelude.{◌≡◌, ◌+◌, ◌<◌, ℕ, None, Option, Some, Ok, Err, [], false, true, List, IfSome, IfOk};
+ghost use Rattle.std.specs.Prelude.{IsOkAnd, OnOk, OnErr, ◌&&◌, ◌||◌, not, slice_get};
+ghost use Rattle.sockets.specs.Performed.{AreRising, IsOpenNowhere, Opens, Changes, SendsTo, Performs, Leaves, MovesOn};
+ghost use Rattle.sockets.specs.Performed.{Fits, client_heard, got_news, IsWithin, is_failed};
 ghost use Rattle.sockets.specs.Noting.{Notes};
 ghost use Rattle.sockets.specs.Tokens.{number_of_client, token_number, IsOfAnother, IsOfClient};
 ghost use Rattle.sockets.specs.Queues.{Grows, IsClientListed, HasQueued, HadQueued, OpensAnew, client_last, is_behind};
@@ -17,18 +20,18 @@ use crate::rooms::room_of;
 use crate::side::Side;
 use crate::upstream::Upstream;
 use crate::wire::Wire;
+use driver::WorldFault;
 use gateway::{Event, Output};
 use mio::Events;
 use mio::event::Event as Report;
 use protocol::limits::GREATEST_UNTAKEN;
+use socket_io::{Got, PutFault};
 use std::alloc::Global;
 use std::collections::VecDeque;
 use std::io;
 use std::io::ErrorKind;
 use std::net::{Net, SocketAddr};
 use std::time::{Clock, Duration, Instant};
-use transfers::{Got, PutFault};
-use worlds::WorldFault;
 
 /// From so many octets for the client on that wait they are written at once, and else before the world waits.
 const WRITTEN_AT_ONCE: usize = 32768;
@@ -39,8 +42,8 @@ const TOLD_AT_ONCE: u64 = 16384;
 /// The client's number among the sockets. Connections to upstreams count from 1.
 const CLIENT: u32 = 0;
 
-/// Of so many turns one begins with a look at all sockets, and one in the middle with what they took, though something else is there: so none keeps the
-/// others from theirs.
+/// Of so many turns one begins with a look at all sockets, and one in the middle with what they
+/// took, though something else is there: so none keeps the others from theirs.
 const ROUND: u32 = 64;
 
 /// In so many turns a client is left at most.
@@ -102,7 +105,8 @@ impl<'a, N: Net + Clock, S: Wire> Sockets<'a, N, S> {
         })
     }
 
-    /// What comes next. Where nothing is there the world waits once, until something is reported, unless it is told of that.
+    /// What comes next. Where nothing is there the world waits once, until something is reported,
+    /// unless it is told of that.
     pub(crate) fn find_next(&mut self, rooms: &[(u32, usize)]) -> Result<Option<Event>, WorldFault>
         ensures moves { MovesOn S.left S.held result self.old.client self.old.upstreams.items self.new.client self.new.upstreams.items }
         ensures fits { IfOk result (λ event. Fits rooms.now event) }
@@ -121,7 +125,8 @@ impl<'a, N: Net + Clock, S: Wire> Sockets<'a, N, S> {
         self.find_event(rooms)
     }
 
-    /// In some turns an event that else would have to wait as long as others are there: of a socket that wasn't looked at yet, or what was taken.
+    /// In some turns an event that else would have to wait as long as others are there: of a socket
+    /// that wasn't looked at yet, or what was taken.
     fn find_aside(&mut self, rooms: &[(u32, usize)]) -> Result<Option<Event>, WorldFault>
         ensures moves { MovesOn S.left S.held result self.old.client self.old.upstreams.items self.new.client self.new.upstreams.items }
         ensures fits { IfOk result (λ event. Fits rooms.now event) }
@@ -151,8 +156,8 @@ impl<'a, N: Net + Clock, S: Wire> Sockets<'a, N, S> {
         None
     }
 
-    /// Looks at all sockets before the client is read again, where connections are open: one that its server ended while it was idle is closed before a request
-    /// comes that would go out on it.
+    /// Looks at all sockets before the client is read again, where connections are open: one that
+    /// its server ended while it was idle is closed before a request comes that would go out on it.
     fn look_ahead(&mut self) -> Result<(), WorldFault>
         ensures moves { MovesOn S.left S.held (Ok None) self.old.client self.old.upstreams.items self.new.client self.new.upstreams.items }
         ensures queued { OnOk result (HasQueued self.old → HasQueued self.new) }
@@ -163,7 +168,8 @@ impl<'a, N: Net + Clock, S: Wire> Sockets<'a, N, S> {
         Ok(())
     }
 
-    /// Whether the client is to be read again, and all sockets weren't looked at since it was read, though connections are open.
+    /// Whether the client is to be read again, and all sockets weren't looked at since it was read,
+    /// though connections are open.
     pub(crate) fn is_behind(&self) -> bool
         ensures { result ≡ is_behind self.now }
     {
@@ -218,8 +224,8 @@ impl<'a, N: Net + Clock, S: Wire> Sockets<'a, N, S> {
         }
     }
 
-    /// The event that a read of an upstream gives, if it gives one. Then, and where there is no room, its next turn comes behind
-    /// those of the others.
+    /// The event that a read of an upstream gives, if it gives one. Then, and where there is no
+    /// room, its next turn comes behind those of the others.
     fn read_upstream(
         &mut self,
         number: u32,
@@ -257,7 +263,8 @@ impl<'a, N: Net + Clock, S: Wire> Sockets<'a, N, S> {
         Ok(client_event(got))
     }
 
-    /// What a read of the client's socket gives: nothing where there is nothing to be read, or too much that was put out isn't told of as taken.
+    /// What a read of the client's socket gives: nothing where there is nothing to be read, or too
+    /// much that was put out isn't told of as taken.
     fn read_of_client(&mut self) -> Result<Got, WorldFault>
         ensures upstreams { self.new.upstreams ≡ self.old.upstreams }
         ensures told { IfOk result (λ got. Goes S.left S.held (got_news got) self.old.client self.new.client) }
@@ -273,7 +280,8 @@ impl<'a, N: Net + Clock, S: Wire> Sockets<'a, N, S> {
         Ok(Got::Nothing)
     }
 
-    /// Whether the client is read: something may be read of it, and not too much that was put out isn't told of as taken.
+    /// Whether the client is read: something may be read of it, and not too much that was put out
+    /// isn't told of as taken.
     fn may_read_client(&self) -> bool
         ensures { result ≡ may_read 1073741824 self.now.client }
     {
@@ -286,7 +294,8 @@ impl<'a, N: Net + Clock, S: Wire> Sockets<'a, N, S> {
         ensures client { self.new.client ≡ self.old.client }
         ensures writes { self.new.writes ≡ self.old.writes }
         ensures ready { Grows self.old.ready.items self.new.ready.items }
-        ensures listed { OnOk result ((self.old.is_client_queued ≡ true → Contains self.old.ready.items 0) → IsClientListed self.new.ready.items self.new.is_client_queued self.new.client) }
+        ensures listed { OnOk result ((self.old.is_client_queued ≡ true → Contains self.old.ready.items 0)
+            → IsClientListed self.new.ready.items self.new.is_client_queued self.new.client) }
     {
         if self.client_joins() {
             self.is_client_queued = true;
@@ -295,14 +304,16 @@ impl<'a, N: Net + Clock, S: Wire> Sockets<'a, N, S> {
         Ok(())
     }
 
-    /// Whether the client joins the sockets of which something may be read: something may, and it doesn't stand among them.
+    /// Whether the client joins the sockets of which something may be read: something may, and it
+    /// doesn't stand among them.
     fn client_joins(&self) -> bool
         ensures { result ≡ (not self.now.is_client_queued && may_be_ready (Some self.now.client)) }
     {
         !self.is_client_queued && self.client.is_readable()
     }
 
-    /// What sockets took that wasn't told of, if they took some: upstreams first, since each of them is told of once in a while.
+    /// What sockets took that wasn't told of, if they took some: upstreams first, since each of
+    /// them is told of once in a while.
     fn tell(&mut self) -> Option<Event>
         ensures moves { MovesOn S.left S.held (Ok result) self.old.client self.old.upstreams.items self.new.client self.new.upstreams.items }
         ensures fits { (rooms : List (ℕ × ℕ)) → Fits rooms result }
@@ -323,8 +334,9 @@ impl<'a, N: Net + Clock, S: Wire> Sockets<'a, N, S> {
         }
     }
 
-    /// Waits until a socket is reported, at most so long where that is said, notes what is, and writes what waits for those that take octets again. A world that
-    /// is told what is reported doesn't wait.
+    /// Waits until a socket is reported, at most so long where that is said, notes what is, and
+    /// writes what waits for those that take octets again. A world that is told what is reported
+    /// doesn't wait.
     fn look(&mut self, most: Option<Duration>) -> Result<(), WorldFault>
         ensures moves { MovesOn S.left S.held (Ok None) self.old.client self.old.upstreams.items self.new.client self.new.upstreams.items }
         ensures queued { OnOk result (HasQueued self.old → HasQueued self.new) }
@@ -368,10 +380,12 @@ impl<'a, N: Net + Clock, S: Wire> Sockets<'a, N, S> {
         }
     }
 
-    /// Notes what was reported of one socket, and writes what waits for it, if it takes octets again; what isn't of this client's is none of its.
+    /// Notes what was reported of one socket, and writes what waits for it, if it takes octets
+    /// again; what isn't of this client's is none of its.
     pub(crate) fn hear(&mut self, report: &Report) -> Result<(), WorldFault>
         ensures others { IsOfAnother report.now (number_of_client self.old.reporting) → (result ≡ Ok tt) × (self.new ≡ self.old) }
-        ensures noted { IsOfClient report.now (number_of_client self.old.reporting) → Notes report.now self.old.client self.old.upstreams.items self.new.client self.new.upstreams.items }
+        ensures noted { IsOfClient report.now (number_of_client self.old.reporting)
+            → Notes report.now self.old.client self.old.upstreams.items self.new.client self.new.upstreams.items }
         ensures rising { AreRising self.old.upstreams.items → AreRising self.new.upstreams.items }
         ensures moves { MovesOn S.left S.held (Ok None) self.old.client self.old.upstreams.items self.new.client self.new.upstreams.items }
         ensures queued { OnOk result (HasQueued self.old → HasQueued self.new) }
@@ -403,7 +417,8 @@ impl<'a, N: Net + Clock, S: Wire> Sockets<'a, N, S> {
         self.queue_client()
     }
 
-    /// Writes what waits for the client, and then reads and drops what comes of it until its end, unless that takes too long.
+    /// Writes what waits for the client, and then reads and drops what comes of it until its end,
+    /// unless that takes too long.
     pub(crate) fn leave_client(&mut self) -> io::Result<()>
         ensures closed { self.new.upstreams.items ≡ [] }
         ensures client { Goes S.left S.held lost_news self.old.client self.new.client }
@@ -418,7 +433,8 @@ impl<'a, N: Net + Clock, S: Wire> Sockets<'a, N, S> {
         Ok(())
     }
 
-    /// Goes on leaving the client as a `Departure` does, and then waits until something of it is there, if nothing is. The answer is whether it is left.
+    /// Goes on leaving the client as a `Departure` does, and then waits until something of it is
+    /// there, if nothing is. The answer is whether it is left.
     fn leave_on(&mut self, leaving: &mut Leaving) -> io::Result<bool>
         ensures upstreams { self.new.upstreams ≡ self.old.upstreams }
         ensures client { Goes S.left S.held lost_news self.old.client self.new.client }
@@ -443,7 +459,8 @@ impl<'a, N: Net + Clock, S: Wire> Sockets<'a, N, S> {
         }
     }
 
-    /// Waits until the client's socket is reported, at most so long, and notes what is. A world that is told what is reported doesn't wait.
+    /// Waits until the client's socket is reported, at most so long, and notes what is. A world
+    /// that is told what is reported doesn't wait.
     fn hear_client(&mut self, most: Duration) -> io::Result<()>
         ensures upstreams { self.new.upstreams ≡ self.old.upstreams }
         ensures client { Goes S.left S.held no_news self.old.client self.new.client }
@@ -459,7 +476,8 @@ impl<'a, N: Net + Clock, S: Wire> Sockets<'a, N, S> {
     /// Opens a connection to its route's address. One that can't be made fails at a later `next`.
     fn open(&mut self, k: u32, route: u32) -> Result<(), WorldFault>
         ensures client { self.new.client ≡ self.old.client }
-        ensures opens { OnOk result (Opens (IsNew (number_of_client self.old.reporting) k (slice_get self.old.addresses.now route)) self.old.upstreams.items self.new.upstreams.items) }
+        ensures opens { OnOk result (Opens (IsNew (number_of_client self.old.reporting) k
+            (slice_get self.old.addresses.now route)) self.old.upstreams.items self.new.upstreams.items) }
         ensures err { OnErr result (self.new.upstreams.items ≡ self.old.upstreams.items) }
         ensures rising { AreRising self.old.upstreams.items → AreRising self.new.upstreams.items }
         ensures queued { OnOk result (0 < k → IsOpenNowhere k self.old.upstreams.items → HasQueued self.old → HasQueued self.new) }
@@ -487,7 +505,8 @@ impl<'a, N: Net + Clock, S: Wire> Sockets<'a, N, S> {
     fn put(&mut self, k: u32, octets: &[u8]) -> Result<(), WorldFault>
         ensures client { self.new.client ≡ self.old.client }
         ensures err { OnErr result (Changes k (SendsFront S.left S.held octets.now) self.old.upstreams.items self.new.upstreams.items) }
-        ensures sends { OnOk result (AreRising self.old.upstreams.items → SendsTo S.left S.held k octets.now self.old.upstreams.items self.new.upstreams.items) }
+        ensures sends { OnOk result (AreRising self.old.upstreams.items
+            → SendsTo S.left S.held k octets.now self.old.upstreams.items self.new.upstreams.items) }
         ensures rising { AreRising self.old.upstreams.items → AreRising self.new.upstreams.items }
         ensures queued { OnOk result (HasQueued self.old → HasQueued self.new) }
     {
@@ -518,7 +537,9 @@ impl<'a, N: Net + Clock, S: Wire> Sockets<'a, N, S> {
     /// Does what an output says.
     pub(crate) fn perform(&mut self, output: &Output) -> Result<(), WorldFault>
         ensures rising { AreRising self.old.upstreams.items → AreRising self.new.upstreams.items }
-        ensures performs { OnOk result (Performs S.left S.held (number_of_client self.old.reporting) self.old.addresses.now output.now self.old.client self.old.upstreams.items self.new.client self.new.upstreams.items) }
+        ensures performs { OnOk result (Performs S.left S.held
+            (number_of_client self.old.reporting) self.old.addresses.now output.now self.old.client self.old.upstreams.items self.new.client
+            self.new.upstreams.items) }
         ensures leaves { OnErr result (Leaves S.left S.held output.now self.old.client self.old.upstreams.items self.new.client self.new.upstreams.items) }
         ensures queued { OnOk result (OpensAnew output.now self.old.upstreams.items → HasQueued self.old → HasQueued self.new) }
     {

@@ -32,7 +32,8 @@ impl<S: Wire> Departure<S> {
         Departure { client, leaving }
     }
 
-    /// Notes what was reported of its socket. A report of a connection to an upstream, which is closed by now, changes nothing.
+    /// Notes what was reported of its socket. A report of a connection to an upstream, which is
+    /// closed by now, changes nothing.
     pub fn hear(&mut self, report: &Report)
         ensures { self.new ≡ (if number_reported report.now == 0 then record self.old { client = noted report.now self.old.client } else self.old) }
     {
@@ -41,9 +42,11 @@ impl<S: Wire> Departure<S> {
         }
     }
 
-    /// Goes on without waiting: writes what its socket takes of what waits for it, tells it that nothing more is written once nothing waits, and reads and drops what is there, in one
-    /// read. The answer is how long it is waited for yet, where nothing is reported of it, or nothing where it is left: its end was read behind all, or it was
-    /// waited for long enough by now. An error is the socket's, or says that memory was refused: then it is left too.
+    /// Goes on without waiting: writes what its socket takes of what waits for it, tells it that
+    /// nothing more is written once nothing waits, and reads and drops what is there, in one read.
+    /// The answer is how long it is waited for yet, where nothing is reported of it, or nothing
+    /// where it is left: its end was read behind all, or it was waited for long enough by now. An
+    /// error is the socket's, or says that memory was refused: then it is left too.
     pub fn go_on(
         &mut self,
         alloc: Global,
@@ -105,8 +108,9 @@ fn drop_piece<S: Wire>(
     Ok(())
 }
 
-/// Writes what a client's socket takes of what waits for it, and tells it that nothing more is written once nothing waits. The answer is whether it is left: all is written,
-/// and its end was read.
+/// Writes what a client's socket takes of what waits for it, and tells it that nothing more is
+/// written once nothing waits. The answer is whether it is left: all is written, and its end was
+/// read.
 fn write_rest<S: Wire>(
     client: &mut Side<S>,
     leaving: &mut Leaving,

@@ -1,5 +1,5 @@
-//! The world of sockets: one client of a gateway, and the upstreams that are opened for it; and what tells the worlds of many clients what is reported.
-//! Tests stand in `sockets_tests`.
+//! The world of sockets: one client of a gateway, and the upstreams that are opened for it; and
+//! what tells the worlds of many clients what is reported. Tests stand in `sockets_tests`.
 #![tactic(auto)]
 
 mod buffer;

@@ -10,10 +10,10 @@ ghost use Rattle.std.specs.List.{Contains};
 use crate::reporting::number_in;
 use crate::upstream::Upstream;
 use crate::wire::Wire;
+use driver::WorldFault;
 use mio::event::Event as Report;
 use mio::{Events, Registry};
 use std::collections::VecDeque;
-use worlds::WorldFault;
 
 /// The place of a connection.
 pub(crate) fn place_of<S>(k: u32, upstreams: &[Upstream<S>]) -> Option<usize>
@@ -36,7 +36,8 @@ pub(crate) fn heed_all<S: Wire>(
 ) -> Result<(), WorldFault>
     ensures goes { AllGoOn S.left S.held no_news upstreams.old.items upstreams.new.items }
     ensures ready { Grows ready.old.items ready.new.items }
-    ensures listed { OnOk result (AllListed 0 ready.old.items writes.old.items upstreams.old.items → AllListed 0 ready.new.items writes.new.items upstreams.new.items) }
+    ensures listed { OnOk result (AllListed 0 ready.old.items writes.old.items upstreams.old.items
+        → AllListed 0 ready.new.items writes.new.items upstreams.new.items) }
 {
     for report in reports {
         heed(report, registry, upstreams, ready, writes)?;
@@ -55,7 +56,8 @@ pub(crate) fn heed<S: Wire>(
     ensures goes { AllGoOn S.left S.held no_news upstreams.old.items upstreams.new.items }
     ensures noted { AreRising upstreams.old.items → NotesOne report.now upstreams.old.items upstreams.new.items }
     ensures ready { Grows ready.old.items ready.new.items }
-    ensures listed { OnOk result (AllListed 0 ready.old.items writes.old.items upstreams.old.items → AllListed 0 ready.new.items writes.new.items upstreams.new.items) }
+    ensures listed { OnOk result (AllListed 0 ready.old.items writes.old.items upstreams.old.items
+        → AllListed 0 ready.new.items writes.new.items upstreams.new.items) }
 {
     let Some(place) = place_of(number_in(report.token()), upstreams) else {
         return Ok(());
@@ -65,7 +67,8 @@ pub(crate) fn heed<S: Wire>(
     list(upstream, ready, writes)
 }
 
-/// Lists an upstream where it belongs by now: among those of which something may be read, and among those that may have taken octets.
+/// Lists an upstream where it belongs by now: among those of which something may be read, and among
+/// those that may have taken octets.
 pub(crate) fn list<S: Wire>(
     upstream: &mut Upstream<S>,
     ready: &mut VecDeque<u32>,
@@ -88,7 +91,8 @@ pub(crate) fn join_ready<S: Wire>(
     ensures stays { upstream.new ≡ record upstream.old { is_queued = upstream.new.is_queued } }
     ensures more { Grows ready.old.items ready.new.items }
     ensures may { OnOk result (may_be_ready upstream.old.side ≡ true → upstream.new.is_queued ≡ true) }
-    ensures queued { OnOk result ((upstream.old.is_queued ≡ true → Contains ready.old.items upstream.old.k) → upstream.new.is_queued ≡ true → Contains ready.new.items upstream.old.k) }
+    ensures queued { OnOk result ((upstream.old.is_queued ≡ true → Contains ready.old.items upstream.old.k) → upstream.new.is_queued ≡ true
+        → Contains ready.new.items upstream.old.k) }
 {
     if upstream.joins_queue() {
         ready.push_back(upstream.k)?;
@@ -104,7 +108,8 @@ fn join_writes<S: Wire>(
     ensures stays { upstream.new ≡ record upstream.old { is_listed = upstream.new.is_listed } }
     ensures more { Grows writes.old.items writes.new.items }
     ensures owes { OnOk result (owes upstream.old.side ≡ true → upstream.new.is_listed ≡ true) }
-    ensures listed { OnOk result ((upstream.old.is_listed ≡ true → Contains writes.old.items upstream.old.k) → upstream.new.is_listed ≡ true → Contains writes.new.items upstream.old.k) }
+    ensures listed { OnOk result ((upstream.old.is_listed ≡ true → Contains writes.old.items upstream.old.k) → upstream.new.is_listed ≡ true
+        → Contains writes.new.items upstream.old.k) }
 {
     if upstream.joins_list() {
         writes.push_back(upstream.k)?;

@@ -16,7 +16,8 @@ const REPORTS: usize = 1024;
 
 const REPORTS_OF_ONE: usize = 128;
 
-/// One poll for the sockets of a world, or of many: it waits for all of them, and has what was reported, by tokens that say whose it is (`client_in`).
+/// One poll for the sockets of a world, or of many: it waits for all of them, and has what was
+/// reported, by tokens that say whose it is (`client_in`).
 #[derive(Drop)]
 pub struct Reactor {
     poll: Poll,
@@ -24,7 +25,8 @@ pub struct Reactor {
 }
 
 impl Reactor {
-    /// A reactor without sources, for many worlds. An error says that too many files are open, or that memory was refused.
+    /// A reactor without sources, for many worlds. An error says that too many files are open, or
+    /// that memory was refused.
     pub fn new<N: Net>(alloc: Global, net: &N) -> io::Result<Reactor>
         ensures { IfOk result (λ reactor. items reactor.reports ≡ []) }
     {
@@ -56,8 +58,8 @@ impl Reactor {
         self.poll.registry().try_clone()
     }
 
-    /// Waits until a socket is reported, at most so long where that is said. What was reported before is forgotten. Where a signal comes it ends at once, and
-    /// nothing was reported.
+    /// Waits until a socket is reported, at most so long where that is said. What was reported
+    /// before is forgotten. Where a signal comes it ends at once, and nothing was reported.
     pub fn wait(&mut self, most: Option<Duration>) -> io::Result<()>
         ensures signal { IfErr result (λ error. error_kind error ≢ ErrorKind.Interrupted) }
         ensures failed { OnErr result (items self.new.reports ≡ []) }

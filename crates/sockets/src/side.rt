@@ -4,14 +4,14 @@ ghost use Rattle.std.specs.Prelude.{◌≡◌, ◌+◌, ◌<◌, ◌↔◌, ◌&
 ghost use Rattle.mio.specs.Interest.{is_readable, is_writable};
 ghost use Rattle.sockets.specs.Putting.{Passes, PassesFront};
 ghost use Rattle.sockets.specs.Sides.{noted, given_up, may_go_on};
-ghost use Rattle.transfers.specs.Transfers.{Gives, nothing_put, told, told_count};
+ghost use Rattle.socket_io.specs.Transfers.{Gives, nothing_put, told, told_count};
 
 use crate::wire::Wire;
 use mio::event::Event;
 use mio::{Interest, Registry, Token};
+use socket_io::{Got, Outgoing, PutFault, read_piece};
 use std::alloc::Global;
 use std::io;
-use transfers::{Got, Outgoing, PutFault, read_piece};
 
 /// A socket that doesn't wait, with what is on its way out to it and what was reported of it.
 #[derive(Drop)]
@@ -36,8 +36,8 @@ pub struct Side<S> {
 }
 
 impl<S: Wire> Side<S> {
-    /// A socket, which is reported under a token from now on. Octets that are put out are written once there are so many, and
-    /// others at the next `flush`; what is written goes out at once.
+    /// A socket, which is reported under a token from now on. Octets that are put out are written
+    /// once there are so many, and others at the next `flush`; what is written goes out at once.
     pub fn new(
         alloc: Global,
         registry: &Registry,
@@ -207,7 +207,8 @@ impl<S: Wire> Side<S> {
     {
         let got = read_piece(alloc, &mut self.socket, room)?;
         self.ended = matches!(got, Got::End);
-        // Behind octets more may be there, or the end, though there was room for more: a read stops before an urgent octet too.
+        // Behind octets more may be there, or the end, though there was room for more: a read stops
+        // before an urgent octet too.
         self.readable = matches!(got, Got::Octets(_));
         Ok(got)
     }

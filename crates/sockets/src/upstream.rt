@@ -3,20 +3,22 @@
 ghost use Rattle.std.specs.Prelude.{◌≡◌, ◌≢◌, ◌<◌, ◌↔◌, ◌&&◌, ◌||◌, [], false, not, length, Some, Ok, Err, IsTrue, IfOk, IsOkAnd, OnOk, OnErr, IfSome, IfNone};
 ghost use Rattle.std.specs.declared.io.Error.{Error};
 ghost use Rattle.std.specs.declared.result.Result.{Result};
-ghost use Rattle.transfers.specs.declared.incoming.Got.{Got};
+ghost use Rattle.socket_io.specs.declared.incoming.Got.{Got};
 ghost use Rattle.sockets.specs.Performed.{Sends, GoesBy, FitsRoom};
-ghost use Rattle.sockets.specs.Sides.{no_news, lost_news, took_news, may_be_ready, owes, is_ready, is_deaf, is_lost, SendsFront, GoesOn, IsOf, Tells, heard_of, note_side, side_told, count_told, side_given_up, out_of, KeepsHeard};
+ghost use Rattle.sockets.specs.Sides.{no_news, lost_news, took_news, may_be_ready, owes, is_ready, is_deaf, is_lost};
+ghost use Rattle.sockets.specs.Sides.{SendsFront, GoesOn, IsOf, Tells, heard_of, note_side, side_told, count_told};
+ghost use Rattle.sockets.specs.Sides.{side_given_up, out_of, KeepsHeard};
 
 use crate::side::Side;
 use crate::wire::Wire;
+use driver::WorldFault;
 use gateway::Event;
 use mio::{Registry, event};
+use socket_io::{Got, PutFault};
 use std::alloc::Global;
 use std::io;
 use std::io::ErrorKind;
 use std::net::SocketAddr;
-use transfers::{Got, PutFault};
-use worlds::WorldFault;
 
 /// A connection to an upstream, by its number.
 #[derive(Drop)]
@@ -70,8 +72,8 @@ impl<S: Wire> Upstream<S> {
         self.is_queued = false;
     }
 
-    /// Whether it joins those of which it may have to be told what they took: they were put out octets of which it wasn't, and it
-    /// doesn't stand among them.
+    /// Whether it joins those of which it may have to be told what they took: they were put out
+    /// octets of which it wasn't, and it doesn't stand among them.
     pub fn joins_list(&mut self) -> bool
         ensures joins { result ≡ (not self.old.is_listed && owes self.old.side) }
         ensures stands { self.new ≡ record self.old { is_listed = self.old.is_listed || result } }
@@ -101,8 +103,8 @@ impl<S: Wire> Upstream<S> {
         }
     }
 
-    /// Whether something may be read of it, for which there is so much room: with none it isn't told either that it failed, since octets may still
-    /// be there before that.
+    /// Whether something may be read of it, for which there is so much room: with none it isn't
+    /// told either that it failed, since octets may still be there before that.
     pub fn is_ready(&self, room: usize) -> bool
         ensures { result ≡ is_ready room self.now.side }
     {
@@ -135,8 +137,9 @@ impl<S: Wire> Upstream<S> {
         }
     }
 
-    /// Whether what is written to it reaches nobody. What it sent before is still read: no write is to be the first to meet a failure, behind which
-    /// an end that came couldn't be told from one that didn't.
+    /// Whether what is written to it reaches nobody. What it sent before is still read: no write is
+    /// to be the first to meet a failure, behind which an end that came couldn't be told from one
+    /// that didn't.
     fn is_deaf(&self) -> bool
         ensures { result ≡ is_deaf self.now }
     {
@@ -186,8 +189,8 @@ impl<S: Wire> Upstream<S> {
         }
     }
 
-    /// The event that a read gives, if something may be read and it gives one. It doesn't stand among those of which something may
-    /// be read any more.
+    /// The event that a read gives, if something may be read and it gives one. It doesn't stand
+    /// among those of which something may be read any more.
     pub fn read_in_turn(
         &mut self,
         alloc: Global,
@@ -229,8 +232,8 @@ impl<S: Wire> Upstream<S> {
         event_of(self.k, self.broken, is_lost, got)
     }
 
-    /// Its socket failed at a write. Where its server had ended it before, which a broken pipe says, that end is still there behind what was sent; else
-    /// it failed.
+    /// Its socket failed at a write. Where its server had ended it before, which a broken pipe
+    /// says, that end is still there behind what was sent; else it failed.
     fn fail(&mut self, kind: ErrorKind)
         ensures broken { IsTrue self.new.broken ↔ (kind ≢ ErrorKind.BrokenPipe) }
         ensures stays { self.new ≡ record self.old { broken = self.new.broken; side = side_given_up self.old.side } }

@@ -4,9 +4,9 @@ ghost use Rattle.std.specs.Prelude.{◌≡◌};
 
 use mio::net::TcpStream;
 use mio::{Interest, Registry, Token};
+use socket_io::Socket;
 use std::io;
 use std::net::{Net, Shutdown, SocketAddr};
-use transfers::Socket;
 
 /// A socket that can be connected, reported and shut. What passes through it stays as it is then.
 pub trait Wire: Socket + Drop {

@@ -2,8 +2,8 @@
 
 ghost use Rattle.std.specs.Prelude.{◌≡◌, ◌+◌, ◌<◌, ◌^◌, None, Some, Ok, Err, [], ◌∷◌, ◌++◌, false, true, List, IfOk, OnOk, OnErr, ◌||◌, is_ok, if◌then◌else◌};
 ghost use Rattle.model.specs.Logs.{Step};
-ghost use Rattle.outputs.specs.Views.{output_of};
-ghost use Rattle.worlds.specs.Worlds.{AddsEvent, AddsHanded, KeepsRooms, SaysOver, with_outputs};
+ghost use Rattle.effects.specs.Views.{output_of};
+ghost use Rattle.driver.specs.Worlds.{AddsEvent, AddsHanded, KeepsRooms, SaysOver, with_outputs};
 ghost use Rattle.sockets.specs.Performed.{AreRising, Performs, Leaves, MovesOn, Fits, told_by, tells_of_client, is_nothing, moves_client, no_log, none_handed};
 ghost use Rattle.sockets.specs.Departing.{departing};
 ghost use Rattle.sockets.specs.Noting.{Notes};
@@ -17,6 +17,7 @@ use crate::departure::Departure;
 use crate::reactor::Reactor;
 use crate::reporting::{Reporting, Shared};
 use crate::wire::Wire;
+use driver::{Next, World, WorldFault};
 use gateway::{Event, Output};
 use mio::Registry;
 use mio::event::Event as Report;
@@ -24,12 +25,13 @@ use std::alloc::Global;
 use std::net::{Net, SocketAddr};
 use std::time::{Clock, Instant};
 use std::{io, mem};
-use worlds::{Next, World, WorldFault};
 
-/// One client, and the upstreams that are opened for it, over sockets that don't wait. It stores no log.
+/// One client, and the upstreams that are opened for it, over sockets that don't wait. It stores no
+/// log.
 ///
-/// A world that was made by `new` waits where nothing is there. One that was made by `under` doesn't: then `next` says that nothing comes, and something comes
-/// only once the world was told of a report (`hear`).
+/// A world that was made by `new` waits where nothing is there. One that was made by `under`
+/// doesn't: then `next` says that nothing comes, and something comes only once the world was told
+/// of a report (`hear`).
 #[derive(Drop)]
 pub struct SocketWorld<'a, N: Net + Clock, S> {
     sockets: Sockets<'a, N, S>,
@@ -42,7 +44,8 @@ pub struct SocketWorld<'a, N: Net + Clock, S> {
 }
 
 impl<'a, N: Net + Clock, S: Wire> SocketWorld<'a, N, S> {
-    /// The world of a client's socket, which doesn't wait. The routes' upstreams have these addresses, in the routes' order.
+    /// The world of a client's socket, which doesn't wait. The routes' upstreams have these
+    /// addresses, in the routes' order.
     pub fn new(
         alloc: Global,
         net: &'a N,
@@ -61,8 +64,9 @@ impl<'a, N: Net + Clock, S: Wire> SocketWorld<'a, N, S> {
         Ok(SocketWorld::of(sockets))
     }
 
-    /// Such a world under a reactor with these sources, among whose clients it has this number. A world alone has the number 0; so may its reactor's listener, to which a caller then gives no client.
-    /// Until it is lent a buffer (`swap_buffer`) it makes one as it needs it.
+    /// Such a world under a reactor with these sources, among whose clients it has this number. A
+    /// world alone has the number 0; so may its reactor's listener, to which a caller then gives no
+    /// client. Until it is lent a buffer (`swap_buffer`) it makes one as it needs it.
     pub fn under(
         alloc: Global,
         net: &'a N,
@@ -101,15 +105,17 @@ impl<'a, N: Net + Clock, S: Wire> SocketWorld<'a, N, S> {
         }
     }
 
-    /// Whether its last `next` said that nothing comes, and nothing was reported since: then nothing comes until something is.
+    /// Whether its last `next` said that nothing comes, and nothing was reported since: then
+    /// nothing comes until something is.
     pub fn is_quiet(&self) -> bool
         ensures { result ≡ self.now.is_quiet }
     {
         self.is_quiet
     }
 
-    /// Whether its reactor is to wait and tell it of reports (`hear`, `catch_up`) before its next turn: a connection that its server ended while it was idle is closed then before more
-    /// is read of the client, which may be a request that would go out on it.
+    /// Whether its reactor is to wait and tell it of reports (`hear`, `catch_up`) before its next
+    /// turn: a connection that its server ended while it was idle is closed then before more is
+    /// read of the client, which may be a request that would go out on it.
     pub fn is_behind(&self) -> bool
         ensures { result ≡ is_behind self.now.sockets }
     {
@@ -149,15 +155,18 @@ impl<'a, N: Net + Clock, S: Wire> SocketWorld<'a, N, S> {
         mem::swap(&mut self.sockets.buffer, buffer);
     }
 
-    /// Notes what was reported of one of its sockets, and writes what waits for that, if it takes octets again; a report of another client's changes nothing. An error is the
-    /// client's socket's, or says that memory was refused: then the client is lost.
+    /// Notes what was reported of one of its sockets, and writes what waits for that, if it takes
+    /// octets again; a report of another client's changes nothing. An error is the client's
+    /// socket's, or says that memory was refused: then the client is lost.
     pub fn hear(&mut self, report: &Report) -> Result<(), WorldFault>
         ensures others { IsOfAnother report.now (number_of_client self.old.sockets.reporting) → (result ≡ Ok tt) × (self.new.sockets ≡ self.old.sockets) }
         ensures calls { self.new.calls ≡ self.old.calls }
         ensures failures { self.new.failures ≡ self.old.failures }
-        ensures noted { IsOfClient report.now (number_of_client self.old.sockets.reporting) → Notes report.now self.old.sockets.client self.old.sockets.upstreams.items self.new.sockets.client self.new.sockets.upstreams.items }
+        ensures noted { IsOfClient report.now (number_of_client self.old.sockets.reporting)
+            → Notes report.now self.old.sockets.client self.old.sockets.upstreams.items self.new.sockets.client self.new.sockets.upstreams.items }
         ensures rising { AreRising self.old.sockets.upstreams.items → AreRising self.new.sockets.upstreams.items }
-        ensures moves { MovesOn S.left S.held (Ok None) self.old.sockets.client self.old.sockets.upstreams.items self.new.sockets.client self.new.sockets.upstreams.items }
+        ensures moves { MovesOn S.left S.held (Ok None) self.old.sockets.client self.old.sockets.upstreams.items self.new.sockets.client
+            self.new.sockets.upstreams.items }
         ensures queued { OnOk result (HasQueued self.old.sockets → HasQueued self.new.sockets) }
         ensures quiet { self.new.is_quiet ≡ false }
     {
@@ -165,7 +174,8 @@ impl<'a, N: Net + Clock, S: Wire> SocketWorld<'a, N, S> {
         self.sockets.hear(report)
     }
 
-    /// Ends what the client sends: what came of it before is still read, and then its end, as where it had ended that itself.
+    /// Ends what the client sends: what came of it before is still read, and then its end, as where
+    /// it had ended that itself.
     pub fn end_client(&mut self) -> io::Result<()>
         ensures calls { self.new.calls ≡ self.old.calls }
         ensures failures { self.new.failures ≡ self.old.failures }
@@ -176,7 +186,8 @@ impl<'a, N: Net + Clock, S: Wire> SocketWorld<'a, N, S> {
         self.sockets.client.end()
     }
 
-    /// Leaves the client, as `finish` does, but without waiting, beside others; the connections to upstreams are closed.
+    /// Leaves the client, as `finish` does, but without waiting, beside others; the connections to
+    /// upstreams are closed.
     pub fn leave(self, now: Instant) -> Departure<S>
         ensures { result ≡ departing now self.entry.sockets.client }
     {
@@ -185,10 +196,12 @@ impl<'a, N: Net + Clock, S: Wire> SocketWorld<'a, N, S> {
         Departure::begin(client, now)
     }
 
-    /// Leaves the client, and closes the connections to upstreams: what was put out for the client is written as its socket takes it, and then what still
-    /// comes of it is read and dropped until its end, so that nothing that was written is lost to it (RFC 9112, section 9.6). It isn't waited for for ever:
-    /// a minute since its socket last took something, and once all is written half a minute, and five seconds of silence. An error is the socket's or the
-    /// clock's, or says that memory was refused.
+    /// Leaves the client, and closes the connections to upstreams: what was put out for the client
+    /// is written as its socket takes it, and then what still comes of it is read and dropped until
+    /// its end, so that nothing that was written is lost to it (RFC 9112, section 9.6). It isn't
+    /// waited for for ever: a minute since its socket last took something, and once all is written
+    /// half a minute, and five seconds of silence. An error is the socket's or the clock's, or says
+    /// that memory was refused.
     pub fn finish(&mut self) -> io::Result<()>
         ensures calls { self.new.calls ≡ self.old.calls }
         ensures failures { self.new.failures ≡ self.old.failures }
@@ -229,7 +242,8 @@ impl<'a, N: Net + Clock, S: Wire> World for SocketWorld<'a, N, S> {
         ensures rooms { true ≡ true → IfOk result (λ next. KeepsRooms rooms.now next) }
         ensures keeps_rooms { true ≡ true }
         ensures rising { AreRising self.old.sockets.upstreams.items → AreRising self.new.sockets.upstreams.items }
-        ensures moves { MovesOn S.left S.held (told_by result) self.old.sockets.client self.old.sockets.upstreams.items self.new.sockets.client self.new.sockets.upstreams.items }
+        ensures moves { MovesOn S.left S.held (told_by result) self.old.sockets.client self.old.sockets.upstreams.items self.new.sockets.client
+            self.new.sockets.upstreams.items }
         ensures fits { IfOk (told_by result) (λ event. Fits rooms.now event) }
         ensures queued { OnOk result (HasQueued self.old.sockets → HasQueued self.new.sockets) }
         ensures quiet { IfOk result (λ next. self.new.is_quiet ≡ is_nothing next) }
@@ -258,14 +272,18 @@ impl<'a, N: Net + Clock, S: Wire> World for SocketWorld<'a, N, S> {
         ensures calls { self.new.calls ≡ self.old.calls }
         ensures failures { self.new.failures ≡ (if is_ok result then self.old.failures else self.old.failures + 1) }
         // The trait's, of a world that tells no log.
-        ensures log { OnOk result ((before : List Step) (step : Step) → no_log ≡ Some (before ++ step ∷ []) → no_log ≡ Some (before ++ with_outputs step (output_of output.now ∷ []) ∷ [])) }
+        ensures log { OnOk result ((before : List Step) (step : Step) → no_log ≡ Some (before ++ step ∷ [])
+            → no_log ≡ Some (before ++ with_outputs step (output_of output.now ∷ []) ∷ [])) }
         ensures err { OnErr result (no_log ≡ no_log) }
         ensures handed { none_handed ≡ none_handed }
         ensures over { false ≡ false }
         ensures keeps_rooms { true ≡ true }
         ensures rising { AreRising self.old.sockets.upstreams.items → AreRising self.new.sockets.upstreams.items }
-        ensures performs { OnOk result (Performs S.left S.held (number_of_client self.old.sockets.reporting) self.old.sockets.addresses.now output.now self.old.sockets.client self.old.sockets.upstreams.items self.new.sockets.client self.new.sockets.upstreams.items) }
-        ensures leaves { OnErr result (Leaves S.left S.held output.now self.old.sockets.client self.old.sockets.upstreams.items self.new.sockets.client self.new.sockets.upstreams.items) }
+        ensures performs { OnOk result (Performs S.left S.held
+            (number_of_client self.old.sockets.reporting) self.old.sockets.addresses.now output.now self.old.sockets.client self.old.sockets.upstreams.items
+            self.new.sockets.client self.new.sockets.upstreams.items) }
+        ensures leaves { OnErr result (Leaves S.left S.held output.now self.old.sockets.client self.old.sockets.upstreams.items self.new.sockets.client
+            self.new.sockets.upstreams.items) }
         ensures queued { OnOk result (OpensAnew output.now self.old.sockets.upstreams.items → HasQueued self.old.sockets → HasQueued self.new.sockets) }
     {
         let applied = self.sockets.perform(output);

@@ -3,6 +3,7 @@
 ghost use Rattle.std.specs.Prelude.{◌≡◌};
 
 use crate::loopback::pair;
+use driver::{Next, World};
 use gateway::{Event, Output};
 use sockets::{Reactor, SocketWorld};
 use std::io::Write;
@@ -10,7 +11,6 @@ use std::mem;
 use std::net::{Ipv4Addr, SocketAddr, TcpListener};
 use std::test::*;
 use std::time::Duration;
-use worlds::{Next, World};
 
 /// There is room for an upstream's octets.
 const ROOMS: [(u32, usize); 1] = [(1, 65536)];

@@ -4,6 +4,7 @@ ghost use Rattle.std.specs.Prelude.{IfOk};
 ghost use Rattle.gateway.specs.Setups.{setup_of, IsServable};
 
 use crate::loopback::{pair, quiet_listener};
+use driver::{Next, ServiceEnd, World, WorldFault, serve};
 use gateway::{Config, Output, Passing, Route};
 use sockets::SocketWorld;
 use std::alloc::{AllocError, Global};
@@ -12,7 +13,6 @@ use std::io::{ErrorKind, Read, Write};
 use std::net::{TcpListener, TcpStream};
 use std::process::Abort;
 use std::test::*;
-use worlds::{Ended, Next, World, WorldFault, serve};
 
 /// How many octets each body has.
 const LENGTH: usize = 100_000;
@@ -23,7 +23,8 @@ const PART: usize = 10_000;
 /// How many octets of a body a client may send at first, on a stream and on all (RFC 9113, section 6.9.2).
 const FIRST_WINDOW: u64 = 65_535;
 
-/// The preface, settings and a WINDOW_UPDATE by which the client takes 1,000,000 octets, and the head of a POST with a body of 100,000 octets.
+/// The preface, settings and a WINDOW_UPDATE by which the client takes 1,000,000 octets, and the
+/// head of a POST with a body of 100,000 octets.
 const OPENING: &[u8] =
     b"PRI * HTTP/2.0\r\n\r\nSM\r\n\r\n\0\0\x06\x04\0\0\0\0\0\0\x04\0\x0f\x42\x40\0\0\x04\x08\0\0\0\0\0\0\x0f\x42\x40\0\0\x1d\x01\x04\0\0\0\x01\x83\x86\x84\x41\x0fwww.example.com\x0f\x0d\x06100000";
 
@@ -279,7 +280,7 @@ fn assert_passes(rt: &impl Abort, host: &HostRuntime, passing: Passing) -> Resul
         server: server_of(host.alloc(), listener)?,
     };
     let ended = serve(host.alloc(), &config, &mut passage, 10_000);
-    assert_eq!(rt; ended, Ok(Ended::Closed));
+    assert_eq!(rt; ended, Ok(ServiceEnd::Closed));
     assert!(rt; passage.client.body == body_of(host.alloc(), 7)?);
     let asked = &passage.server.asked;
     assert!(rt; asked.starts_with(b"POST / HTTP/1.1\r\n"));

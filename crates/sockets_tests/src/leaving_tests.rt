@@ -1,8 +1,10 @@
 //! A client that is left: while more waits for it than its socket takes at once, and where it is silent.
 
 use crate::loopback::{numbers, pair};
+use driver::World;
 use gateway::Output;
 use mio::{Interest, Registry, Token};
+use socket_io::Socket;
 use sockets::{SocketWorld, Wire};
 use std::cell::RefCell;
 use std::io;
@@ -10,8 +12,6 @@ use std::io::{ErrorKind, Read};
 use std::net::{Net, Shutdown, SocketAddr, TcpStream};
 use std::test::*;
 use std::time::{Duration, Instant};
-use transfers::Socket;
-use worlds::World;
 
 /// A socket whose other end reads what is there where no more fits into it, or nothing more comes, and then ends too.
 #[derive(Drop)]

@@ -1,6 +1,8 @@
-//! Tests of `sockets` over connections of the loopback: one side, an upstream, a client's world, worlds beside others, and how a client is left.
+//! Tests of `sockets` over connections of the loopback: one side, an upstream, a client's world,
+//! worlds beside others, and how a client is left.
 //!
-//! There is nothing here but tests. They stand apart from `sockets` so that it isn't proved a second time together with them.
+//! There is nothing here but tests. They stand apart from `sockets` so that it isn't proved a
+//! second time together with them.
 #![tactic(auto)]
 
 #[cfg(test)]

@@ -3,6 +3,7 @@
 ghost use Rattle.std.specs.Prelude.{◌≡◌, IfOk};
 
 use crate::loopback::pair;
+use driver::{Next, World, WorldFault};
 use gateway::{Event, Output};
 use mio::Registry;
 use mio::event::Event as Report;
@@ -12,7 +13,6 @@ use std::io::{ErrorKind, Read, Write};
 use std::net::{Shutdown, TcpStream};
 use std::test::*;
 use std::time::{Duration, Instant};
-use worlds::{Next, World, WorldFault};
 
 /// More octets than a socket takes at once.
 const MANY: usize = 5_000_000;
@@ -54,7 +54,8 @@ fn tell_one(
     Ok(1)
 }
 
-/// Waits a little, and tells each world what was reported for its sockets. The answer is how many reports were of neither.
+/// Waits a little, and tells each world what was reported for its sockets. The answer is how many
+/// reports were of neither.
 fn tell(reactor: &mut Reactor, first: &mut Told<'_>, second: &mut Told<'_>) -> Result<usize, Fail>
     ensures first { (first.new.calls ≡ first.old.calls) × (first.new.failures ≡ first.old.failures) }
     ensures second { (second.new.calls ≡ second.old.calls) × (second.new.failures ≡ second.old.failures) }
@@ -120,7 +121,8 @@ fn a_client_that_is_given_up_ends(rt: HostRuntime) -> Result<(), Fail> {
     Ok(())
 }
 
-/// Goes on leaving a client until it is left, in 100,000 rounds at most, while its other end reads, and then ends too. The answer is how many rounds that took.
+/// Goes on leaving a client until it is left, in 100,000 rounds at most, while its other end reads,
+/// and then ends too. The answer is how many rounds that took.
 fn leave(
     rt: &HostRuntime,
     reactor: &mut Reactor,

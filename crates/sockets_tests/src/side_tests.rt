@@ -2,6 +2,7 @@
 
 use crate::loopback::pair;
 use mio::{Events, Interest, Poll, Registry, Token};
+use socket_io::{Got, Socket};
 use sockets::{Side, Wire};
 use std::cell::RefCell;
 use std::io;
@@ -9,7 +10,6 @@ use std::io::{ErrorKind, Read, Write};
 use std::net::{Net, SocketAddr, TcpStream};
 use std::test::*;
 use std::time::Duration;
-use transfers::{Got, Socket};
 
 #[test]
 fn a_side_that_is_shut_still_hears(rt: HostRuntime) -> Result<(), Fail> {

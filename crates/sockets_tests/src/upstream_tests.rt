@@ -1,10 +1,13 @@
-//! Peers whose octets come two by two, upstreams whose writes fail or take nothing for a while, and those that can't be reached.
+//! Peers whose octets come two by two, upstreams whose writes fail or take nothing for a while, and
+//! those that can't be reached.
 
 ghost use Rattle.std.specs.Prelude.{◌+◌, ◌<◌, ◌^◌};
 
 use crate::loopback::{numbers, pair};
+use driver::{Next, World};
 use gateway::{Event, Output, Text};
 use mio::{Interest, Registry, Token};
+use socket_io::Socket;
 use sockets::{SocketWorld, Wire};
 use std::alloc::{AllocError, Global};
 use std::io::{ErrorKind, Read, Write};
@@ -12,13 +15,12 @@ use std::net::{IpAddr, Ipv4Addr, Net, SocketAddr, TcpListener, TcpStream};
 use std::process::Abort;
 use std::test::*;
 use std::{io, mem};
-use transfers::Socket;
-use worlds::{Next, World};
 
 /// What a peer of these tests sent, behind which it ended.
 const SENT: &[u8] = b"HTTP/1.1 200 OK\r\n\r\nhi";
 
-/// A socket to which no octet can be written, and that gives two at most in a read. What a write does stands in its address.
+/// A socket to which no octet can be written, and that gives two at most in a read. What a write
+/// does stands in its address.
 #[derive(Drop)]
 struct Failing {
     near: mio::net::TcpStream,

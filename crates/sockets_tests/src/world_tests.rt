@@ -4,6 +4,7 @@ ghost use Rattle.std.specs.Prelude.{IfOk};
 ghost use Rattle.gateway.specs.Setups.{setup_of, IsServable};
 
 use crate::loopback::{pair, quiet_listener};
+use driver::{Next, ServeFault, ServiceEnd, World, WorldFault, serve};
 use gateway::{Config, Event, Output, Route};
 use sockets::SocketWorld;
 use std::alloc::{AllocError, Global};
@@ -12,7 +13,6 @@ use std::net::{Shutdown, SocketAddr, TcpListener, TcpStream};
 use std::process::Abort;
 use std::test::*;
 use std::{io, mem};
-use worlds::{Ended, Next, ServeFault, World, WorldFault, serve};
 
 /// The preface, settings without entries, and a GET without a body on stream 1.
 const REQUEST: &[u8] =
@@ -217,8 +217,9 @@ fn route_of(alloc: Global, authority: &[u8]) -> Result<Config, AllocError>
     })
 }
 
-/// A client and its upstream: what the client sends, how many connections the upstream answers at once, the last one first, with which pieces in place of
-/// the answer in one piece, and how many octets the client reads before it leaves.
+/// A client and its upstream: what the client sends, how many connections the upstream answers at
+/// once, the last one first, with which pieces in place of the answer in one piece, and how many
+/// octets the client reads before it leaves.
 #[derive(Clone, Copy)]
 struct Visit<'a> {
     sent: &'a [u8],
@@ -230,7 +231,7 @@ struct Visit<'a> {
 /// How serving ended, what the client read, in how many reads, and what the upstream was asked.
 #[derive(Drop)]
 struct Seen {
-    ended: Result<Ended, ServeFault>,
+    ended: Result<ServiceEnd, ServeFault>,
     read: Vec<u8>,
     reads: u32,
     asked: Vec<u8>,
@@ -295,7 +296,7 @@ fn serve_visit<'a>(
 /// A client read the greeting and then these frames, and left.
 fn assert_read(rt: &impl Abort, seen: &Seen, frames: &[u8]) {
     let ended = &seen.ended;
-    assert!(rt; matches!(ended, Ok(Ended::Closed)));
+    assert!(rt; matches!(ended, Ok(ServiceEnd::Closed)));
     let (greeting, rest) = seen.read.split_at(GREETING.len().min(seen.read.len()));
     assert_eq!(rt; greeting, GREETING);
     assert_eq!(rt; rest, frames);
@@ -428,7 +429,8 @@ fn a_world_waits_until_something_comes(rt: HostRuntime) -> Result<(), Fail> {
     let mut world = SocketWorld::new(rt.alloc(), &rt, &addresses, far)?;
     let opened = world.apply(&Output::Open(1, 0));
     assert_eq!(rt; opened, Ok(()));
-    // The first try isn't answered. The next one, a second later, is refused, since nobody listens any more: until then nothing comes.
+    // The first try isn't answered. The next one, a second later, is refused, since nobody listens
+    // any more: until then nothing comes.
     mem::drop(upstream);
     let next = world.next(&[(1, 65536)]);
     assert!(rt; matches!(next, Ok(Next::Happened(Event::UpFailed(1)))));
@@ -482,7 +484,7 @@ fn what_is_put_out_goes_out_where_the_turns_end(rt: HostRuntime) -> Result<(), F
     client.write_all(REQUEST)?;
     let mut world = SocketWorld::new(rt.alloc(), &rt, &[], far)?;
     let ended = serve(rt.alloc(), &config, &mut world, 1);
-    assert_eq!(rt; ended, Ok(Ended::Turns));
+    assert_eq!(rt; ended, Ok(ServiceEnd::Turns));
     client.shutdown(Shutdown::Write)?;
     world.finish()?;
     let mut room = [0u8; 256];
@@ -494,7 +496,7 @@ fn what_is_put_out_goes_out_where_the_turns_end(rt: HostRuntime) -> Result<(), F
 /// The gateway's settings, which go out before all else.
 const SETTINGS: &[u8] = b"\0\0\x0c\x04\0\0\0\0\0\0\x03\0\0\0\x64\0\x06\0\0\x40\0";
 
-/// The farewell behind a wrong preface (RFC 9113, sections 3.4 and 6.8).
+/// The GOAWAY behind a wrong preface (RFC 9113, sections 3.4 and 6.8).
 const FAREWELL: &[u8] = b"\0\0\x08\x07\0\0\0\0\0\0\0\0\0\0\0\0\x01";
 
 /// Writes so many octets that are no preface, and then no more.
@@ -511,14 +513,14 @@ fn a_client_that_sends_on_reads_why_it_was_left(rt: HostRuntime) -> Result<(), F
     send_on(rt.alloc(), &mut client, 200_000)?;
     let mut world = SocketWorld::new(rt.alloc(), &rt, &[], far)?;
     let ended = serve(rt.alloc(), &config, &mut world, 100);
-    assert_eq!(rt; ended, Ok(Ended::Closed));
+    assert_eq!(rt; ended, Ok(ServiceEnd::Closed));
     world.finish()?;
     mem::drop(world);
     // Were octets left unread, the socket would be reset, and what was written might be lost.
     let mut read = Vec::new(rt.alloc());
     client.read_to_end(&mut read)?;
-    let (settings, farewell) = read.split_at(SETTINGS.len().min(read.len()));
+    let (settings, goaway) = read.split_at(SETTINGS.len().min(read.len()));
     assert_eq!(rt; settings, SETTINGS);
-    assert_eq!(rt; farewell, FAREWELL);
+    assert_eq!(rt; goaway, FAREWELL);
     Ok(())
 }

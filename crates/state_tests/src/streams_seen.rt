@@ -1,7 +1,7 @@
 //! What is seen of streams.
 
 use stream_state::{Kind, Standing, State, Verdict};
-use streams_kept::{Course, Live, Streams};
+use streams::{Course, Live, StreamTable};
 
 /// The course of a request whose head came, and which declares nothing.
 pub const BEGUN: Course = Course {
@@ -53,7 +53,7 @@ fn is_seen(live: &Live, seen: Seen) -> bool {
 }
 
 /// Whether this is seen of an active stream.
-fn is_seen_of(streams: &Streams, id: u32, seen: Seen) -> bool {
+fn is_seen_of(streams: &StreamTable, id: u32, seen: Seen) -> bool {
     match streams.find(id) {
         Some(live) => is_seen(live, seen),
         None => false,
@@ -61,14 +61,14 @@ fn is_seen_of(streams: &Streams, id: u32, seen: Seen) -> bool {
 }
 
 /// Whether a first size of windows is too large; one that no window has isn't asked of.
-fn shifts_past(streams: &Streams, first: u32) -> Option<bool> {
+fn shifts_past(streams: &StreamTable, first: u32) -> Option<bool> {
     if first > 2147483647 {
         return None;
     }
     Some(streams.shifts_past(first))
 }
 
-fn is_so(streams: &Streams, fact: Fact) -> bool {
+fn is_so(streams: &StreamTable, fact: Fact) -> bool {
     match fact {
         Fact::Active(count) => streams.active() == count,
         Fact::Count(count) => streams.count() == count,
@@ -83,7 +83,7 @@ fn is_so(streams: &Streams, fact: Fact) -> bool {
 }
 
 /// Whether all of this is seen.
-pub(crate) fn are_so(streams: &Streams, facts: &[Fact]) -> bool {
+pub(crate) fn are_so(streams: &StreamTable, facts: &[Fact]) -> bool {
     for fact in facts {
         if !is_so(streams, *fact) {
             return false;

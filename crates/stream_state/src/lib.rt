@@ -53,11 +53,13 @@ impl Streams {
         }
     }
 
-    /// What comes of a frame on this id by the state of its stream (RFC 9113, sections 5.1, 5.1.1 and 5.1.2). An id above
-    /// that of the 10,000th stream is one that a GOAWAY with NO_ERROR has ruled out (RFC 9113, section 6.8).
+    /// What comes of a frame on this id by the state of its stream (RFC 9113, sections 5.1, 5.1.1
+    /// and 5.1.2). An id above that of the 10,000th stream is one that a GOAWAY with NO_ERROR has
+    /// ruled out (RFC 9113, section 6.8).
     ///
-    /// DATA and RST_STREAM on 0, which the id alone is against, pass here: they are judged before (RFC 9113, sections 6.1
-    /// and 6.4). Where the answer is `Open`, or REFUSED_STREAM for want of room, `open` may be called with the id.
+    /// DATA and RST_STREAM on 0, which the id alone is against, pass here: they are judged before
+    /// (RFC 9113, sections 6.1 and 6.4). Where the answer is `Open`, or REFUSED_STREAM for want of
+    /// room, `open` may be called with the id.
     pub fn verdict(&self, id: u32, kind: Kind) -> Verdict
         ensures is { verdict_in result ≡ verdict (active_count self.now) (standing self.now id) (kind_in kind) }
         ensures allows { AllowsOpening result id self.now }
@@ -66,9 +68,9 @@ impl Streams {
         verdict_at(self.active, standing, kind)
     }
 
-    /// How an id stands to the streams that were opened (RFC 9113, sections 5.1 and 5.1.1): so an idle stream is told apart
-    /// from one that is closed. An id above that of the 10,000th stream is beyond the last that a GOAWAY with NO_ERROR
-    /// named (RFC 9113, section 6.8).
+    /// How an id stands to the streams that were opened (RFC 9113, sections 5.1 and 5.1.1): so an
+    /// idle stream is told apart from one that is closed. An id above that of the 10,000th stream
+    /// is beyond the last that a GOAWAY with NO_ERROR named (RFC 9113, section 6.8).
     pub fn standing(&self, id: u32) -> Standing
         ensures { standing_in result ≡ standing self.now id }
     {
@@ -84,8 +86,9 @@ impl Streams {
         }
     }
 
-    /// Opens a stream (RFC 9113, section 5.1): its id is added, and is active. It is odd and above all that were opened, of
-    /// which there are fewer than 10,000. The only error is that no memory was left, and then nothing changes.
+    /// Opens a stream (RFC 9113, section 5.1): its id is added, and is active. It is odd and above
+    /// all that were opened, of which there are fewer than 10,000. The only error is that no memory
+    /// was left, and then nothing changes.
     pub fn open(&mut self, id: u32) -> Result<(), AllocError>
         requires { IsOpenable id self.old }
         ensures ok { OnOk result (self.new ≡ self.old ++ record { id = id; state = StreamState.Open } ∷ []) }
@@ -107,8 +110,8 @@ impl Streams {
         self.change(id, Step::RemoteEnds)
     }
 
-    /// The gateway ended the active stream with this id (RFC 9113, section 5.1). Any other stream stays as it is, and so
-    /// does this one where the gateway had ended it before.
+    /// The gateway ended the active stream with this id (RFC 9113, section 5.1). Any other stream
+    /// stays as it is, and so does this one where the gateway had ended it before.
     pub fn end_local(&mut self, id: u32)
         ensures { self.new ≡ changed LocalEnds id self.old }
     {
@@ -146,7 +149,8 @@ impl Streams {
         self.records.len() as u32
     }
 
-    /// The highest id of a stream that was opened, or 0 where none was: it is what a GOAWAY names (RFC 9113, section 6.8).
+    /// The highest id of a stream that was opened, or 0 where none was: it is what a GOAWAY names
+    /// (RFC 9113, section 6.8).
     pub fn highest(&self) -> u32
         ensures { result ≡ highest_in self.now }
     {

@@ -52,7 +52,8 @@ pub enum Standing {
 impl Standing {
     ghost use Rattle.model.specs.ErrorTable.{is_idle};
 
-    /// Whether the stream is idle, to the client or to a server: it wasn't opened, and isn't closed (RFC 9113, section 5.1).
+    /// Whether the stream is idle, to the client or to a server: it wasn't opened, and isn't closed
+    /// (RFC 9113, section 5.1).
     pub fn is_idle(self) -> bool
         ensures { result ≡ is_idle (standing_in self) }
     {

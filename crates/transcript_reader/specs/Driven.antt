@@ -2,7 +2,7 @@
 use Rattle.std.specs.Prelude.{◌≡◌, false, List}
 use Rattle.model.specs.Logs.{Step}
 use Rattle.model.specs.Setup.{Setup}
-use Rattle.policy.specs.Moves.{Move}
+use Rattle.theory.specs.Moves.{Move}
 use Rattle.gateway.specs.Stands.{Standing, Stands, is_dead}
 
 -- Unless memory was refused, it stands for some log.

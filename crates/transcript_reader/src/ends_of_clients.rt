@@ -3,20 +3,22 @@
 ghost use Rattle.gateway.specs.Setups.{setup_of, IsServable};
 
 use crate::messages::requests_in;
-use crate::runs::{Told, Upstream, drive};
+use crate::runs::{SeenUpstream, Told, drive};
 use crate::texts::is_cut;
 use frames::{Split, View, split};
 use gateway::{Config, Event, Passing};
 use std::alloc::{AllocError, Global};
 
-/// What was seen of the frames of a client: how many requests have ended, and whether the header block that is begun ends one.
+/// What was seen of the frames of a client: how many requests have ended, and whether the header
+/// block that is begun ends one.
 #[derive(Clone, Copy)]
 struct Seen {
     ended: usize,
     is_last: bool,
 }
 
-/// What is seen behind one more frame: a request ends with DATA that has END_STREAM, or with the last frame of a header block that has it.
+/// What is seen behind one more frame: a request ends with DATA that has END_STREAM, or with the
+/// last frame of a header block that has it.
 fn seen_behind(seen: Seen, view: View<'_>) -> Seen {
     let ends_stream = view.flags & 1 != 0;
     let ends_block = view.flags & 4 != 0;
@@ -53,7 +55,7 @@ fn ended_in(octets: &[u8]) -> usize {
 }
 
 /// How many whole requests these upstreams were sent.
-fn whole_requests(upstreams: &[Upstream]) -> usize {
+fn whole_requests(upstreams: &[SeenUpstream]) -> usize {
     let mut count = 0usize;
     for upstream in upstreams {
         count = count.saturating_add(requests_in(&upstream.text).count);
@@ -62,14 +64,14 @@ fn whole_requests(upstreams: &[Upstream]) -> usize {
 }
 
 /// Whether a connection was sent whole requests alone, of which there are some.
-fn has_whole_requests(upstream: &Upstream) -> bool {
+fn has_whole_requests(upstream: &SeenUpstream) -> bool {
     let found = requests_in(&upstream.text);
     found.count > 0 && found.rest.is_empty()
 }
 
-/// Whether all connections were closed, and were sent fronts of what they're sent in the whole run; where bodies are passed on whole, whole
-/// requests alone.
-fn are_fronts(upstreams: &[Upstream], others: &[Upstream], passes_whole: bool) -> bool {
+/// Whether all connections were closed, and were sent fronts of what they're sent in the whole run;
+/// where bodies are passed on whole, whole requests alone.
+fn are_fronts(upstreams: &[SeenUpstream], others: &[SeenUpstream], passes_whole: bool) -> bool {
     for (upstream, other) in upstreams.iter().zip(others) {
         if !upstream.is_closed || !other.text.starts_with(&upstream.text) {
             return false;
@@ -81,8 +83,9 @@ fn are_fronts(upstreams: &[Upstream], others: &[Upstream], passes_whole: bool) -
     upstreams.len() <= others.len()
 }
 
-/// Whether all was closed, and upstreams were sent no more whole requests than the client had ended, and else fronts of what they're sent in the whole run; where
-/// bodies are passed on whole, whole requests alone.
+/// Whether all was closed, and upstreams were sent no more whole requests than the client had
+/// ended, and else fronts of what they're sent in the whole run; where bodies are passed on whole,
+/// whole requests alone.
 fn is_left_well(told: &Told, whole: &Told, octets: &[u8], passing: Passing) -> bool {
     let passes_whole = matches!(passing, Passing::Whole);
     told.is_over
@@ -91,7 +94,8 @@ fn is_left_well(told: &Told, whole: &Told, octets: &[u8], passing: Passing) -> b
         && are_fronts(&told.upstreams, &whole.upstreams, passes_whole)
 }
 
-/// The first cut of a piece at which it is wrong what is put out, where the client goes away there; `came` came before it, and is left as it was.
+/// The first cut of a piece at which it is wrong what is put out, where the client goes away there;
+/// `came` came before it, and is left as it was.
 fn wrong_cut(
     alloc: Global,
     config: &Config,

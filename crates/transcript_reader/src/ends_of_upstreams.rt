@@ -3,7 +3,7 @@
 ghost use Rattle.gateway.specs.Setups.{setup_of, IsServable};
 
 use crate::messages::Heard;
-use crate::runs::{Told, Upstream, drive};
+use crate::runs::{SeenUpstream, Told, drive};
 use crate::texts::{is_cut, place_of};
 use frames::{Split, View, split};
 use gateway::{Config, Event, Passing};
@@ -94,8 +94,9 @@ fn is_of_stream(octets: &[u8], stream: u32) -> bool {
     }
 }
 
-/// Whether what is put out last is right where an upstream ends, or fails, whose response on a stream was heard so far: where the end completes that, all of it, or what
-/// is left; else 502, or a reset where the response's head went out.
+/// Whether what is put out last is right where an upstream ends, or fails, whose response on a
+/// stream was heard so far: where the end completes that, all of it, or what is left; else 502, or
+/// a reset where the response's head went out.
 fn is_told_well(
     last: &[u8],
     stream: u32,
@@ -119,7 +120,7 @@ fn is_told_well(
 }
 
 /// Whether the other connections are open or closed as they are where the whole piece comes.
-fn are_others_alike(upstreams: &[Upstream], others: &[Upstream], k: u32) -> bool {
+fn are_others_alike(upstreams: &[SeenUpstream], others: &[SeenUpstream], k: u32) -> bool {
     for (place, (upstream, other)) in upstreams.iter().zip(others).enumerate() {
         if place.saturating_add(1) != k as usize && upstream.is_closed != other.is_closed {
             return false;
@@ -128,8 +129,10 @@ fn are_others_alike(upstreams: &[Upstream], others: &[Upstream], k: u32) -> bool
     upstreams.len() == others.len()
 }
 
-/// Whether what is put out for the client is right where an upstream ends, or fails. Where its connection was closed before, that is what is put out where
-/// the whole piece comes, whose front decided it (`whole`), and so it is where the connection is idle; where the client takes nothing it is nothing yet.
+/// Whether what is put out for the client is right where an upstream ends, or fails. Where its
+/// connection was closed before, that is what is put out where the whole piece comes, whose front
+/// decided it (`whole`), and so it is where the connection is idle; where the client takes nothing
+/// it is nothing yet.
 fn is_ended_well(told: &Told, whole: &Told, k: u32, is_end: bool, passing: Passing) -> bool {
     if told.strays > 0 || !are_others_alike(&told.upstreams, &whole.upstreams, k) {
         return false;
@@ -241,7 +244,8 @@ fn push_event(alloc: Global, event: &Event, events: &mut Vec<Event>) -> Result<(
     Ok(())
 }
 
-/// The first event of an upstream behind an octet of which it ends or fails and something else is put out than there should be.
+/// The first event of an upstream behind an octet of which it ends or fails and something else is
+/// put out than there should be.
 pub(crate) fn difference(
     alloc: Global,
     config: &Config,

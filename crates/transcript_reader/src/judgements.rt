@@ -1,12 +1,15 @@
 //! How a row is judged, by words:
 //!
 //! - `prints`: each event puts out what stands under it.
-//! - `octets`: the same is put out in all where octets of the client come one by one, and where those of upstreams do.
+//! - `octets`: the same is put out in all where octets of the client come one by one, and where
+//!   those of upstreams do.
 //! - `joined`: the same, but where octets of upstreams come one by one, DATA may be cut elsewhere.
-//! - `client-ends`: where the client goes away behind an octet, all is closed, and no request that wasn't complete is completed.
-//! - `upstream-ends`: where an upstream ends or fails behind an octet, the client is told so as it should be, on the stream that its connection serves; and nothing
-//!   where that is idle.
-//! - `world-faults`: where a call of the world fails, serving it ends with that, and its log is a front of the one without the fault.
+//! - `client-ends`: where the client goes away behind an octet, all is closed, and no request that
+//!   wasn't complete is completed.
+//! - `upstream-ends`: where an upstream ends or fails behind an octet, the client is told so as it
+//!   should be, on the stream that its connection serves; and nothing where that is idle.
+//! - `world-faults`: where a call of the world fails, serving it ends with that, and its log is a
+//!   front of the one without the fault.
 //!
 //! Of long pieces, and of many calls, the last three try some (`texts::is_cut`).
 
@@ -16,7 +19,7 @@ use crate::octets::Data;
 use crate::transcripts::Transcript;
 use crate::{ends_of_clients, ends_of_upstreams, octets, printing, world_faults};
 use gateway::Config;
-use scripts::{ScriptFault, read_script};
+use replay::{ScriptFault, read_script};
 use std::alloc::{AllocError, Global};
 
 /// What is wrong with a transcript by a configuration, as a word judges it.

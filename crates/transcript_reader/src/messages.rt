@@ -9,7 +9,8 @@ const LENGTH: &[u8] = b"\r\ncontent-length: ";
 /// What stands before the length that the head of a response declares in rows.
 const LENGTH_OF_RESPONSE: &[u8] = b"\r\nContent-Length: ";
 
-/// The line of a head behind which the body comes in chunks, in small letters, and as the head of a response has it in rows.
+/// The line of a head behind which the body comes in chunks, in small letters, and as the head of a
+/// response has it in rows.
 const CHUNKED: &[u8] = b"\r\ntransfer-encoding: chunked\r\n";
 
 const CHUNKED_RESPONSE: &[u8] = b"\r\nTransfer-Encoding: chunked\r\n";
@@ -69,8 +70,8 @@ fn length_in(head: &[u8], name: &[u8]) -> Option<usize> {
     str::from_utf8(value.get(..end)?).ok()?.parse().ok()
 }
 
-/// What stands behind the first whole request of a text, if one begins it: its head with chunks up to the last and the end of the trailers, or with
-/// as many octets as it declares, or with none.
+/// What stands behind the first whole request of a text, if one begins it: its head with chunks up
+/// to the last and the end of the trailers, or with as many octets as it declares, or with none.
 fn behind_request(text: &[u8]) -> Option<&[u8]> {
     let body = body_of(text)?;
     let head = text.get(..text.len().saturating_sub(body.len()))?;

@@ -1,5 +1,6 @@
-//! How octets are written in a row: in hex, with spaces anywhere; as text in single quotes, with `\r` and `\n` for CR and LF; by a
-//! name in braces; and repeated, as `{61 x 1000}`, also within braces.
+//! How octets are written in a row: in hex, with spaces anywhere; as text in single quotes, with
+//! `\r` and `\n` for CR and LF; by a name in braces; and repeated, as `{61 x 1000}`, also within
+//! braces.
 
 use std::alloc::{AllocError, Global};
 use std::mem;

@@ -5,7 +5,7 @@ ghost use Rattle.gateway.specs.Setups.{setup_of, IsServable};
 use crate::runs::{Told, drive};
 use frames::{Split, View, split};
 use gateway::{Config, Event};
-use scripts::read_script;
+use replay::read_script;
 use std::alloc::{AllocError, Global};
 
 /// Whose octets are cut.
@@ -75,7 +75,8 @@ fn told_by_octets(
     drive(alloc, config, &in_octets(alloc, events, side)?, &[])
 }
 
-/// Adds a frame, but for where DATA is cut: behind DATA of the same stream its octets alone. Says of which stream it was DATA that goes on.
+/// Adds a frame, but for where DATA is cut: behind DATA of the same stream its octets alone. Says
+/// of which stream it was DATA that goes on.
 fn push_joined(
     view: View<'_>,
     frame: &[u8],
@@ -127,8 +128,8 @@ fn is_alike(alloc: Global, whole: &Told, cut: &Told, data: Data) -> Result<bool,
     Ok(alike && cut.is_same_upstream(whole))
 }
 
-/// What differs from the whole run of a script where octets of the client come one by one, or then those of upstreams; these alone may be
-/// put out with DATA cut elsewhere.
+/// What differs from the whole run of a script where octets of the client come one by one, or then
+/// those of upstreams; these alone may be put out with DATA cut elsewhere.
 pub(crate) fn difference(
     alloc: Global,
     config: &Config,

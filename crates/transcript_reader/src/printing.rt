@@ -3,7 +3,7 @@
 ghost use Rattle.gateway.specs.Setups.{setup_of, IsServable};
 
 use gateway::{Config, Event, Output, RunFault, run};
-use scripts::print_steps;
+use replay::print_steps;
 use std::alloc::{AllocError, Global};
 
 /// The first event that doesn't put out what is wanted of it, with that and with what came.

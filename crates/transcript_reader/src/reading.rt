@@ -24,11 +24,12 @@ struct Found {
     wrong: u32,
 }
 
-/// Goes through the rows of the files that the arguments name, one after another. It prints the name of each row that differs from what
-/// it says, with what was wanted and what came; where none does, how many rows were run, and how often they were judged.
+/// Goes through the rows of the files that the arguments name, one after another. It prints the
+/// name of each row that differs from what it says, with what was wanted and what came; where none
+/// does, how many rows were run, and how often they were judged.
 ///
-/// The status is 0 where no row differs, and 1 where one does, or isn't a row. It is 2 where a file can't be read, nothing can be
-/// printed, or no memory was left.
+/// The status is 0 where no row differs, and 1 where one does, or isn't a row. It is 2 where a file
+/// can't be read, nothing can be printed, or no memory was left.
 pub fn go_through(rt: &HostRuntime) -> u8
     ensures { result ≤ 2 }
 {

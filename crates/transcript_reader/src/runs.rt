@@ -9,10 +9,10 @@ use frames::{Split, split};
 use gateway::{Config, Event, Gateway, Output};
 use std::alloc::{AllocError, Global};
 
-/// What became of a connection to an upstream: its route; what was put out for it; where in that the last request begins, and its stream; and what
-/// came of it since.
+/// What became of a connection to an upstream: its route; what was put out for it; where in that
+/// the last request begins, and its stream; and what came of it since.
 #[derive(Drop)]
-pub struct Upstream {
+pub struct SeenUpstream {
     pub route: u32,
     pub text: Vec<u8>,
     begins: usize,
@@ -21,10 +21,10 @@ pub struct Upstream {
     pub is_closed: bool,
 }
 
-impl Upstream {
+impl SeenUpstream {
     /// A connection that was opened by a route for a stream.
-    fn opened(alloc: Global, route: u32, stream: u32) -> Upstream {
-        Upstream {
+    fn opened(alloc: Global, route: u32, stream: u32) -> SeenUpstream {
+        SeenUpstream {
             route,
             text: Vec::new(alloc),
             begins: 0,
@@ -64,7 +64,7 @@ impl Upstream {
     }
 
     /// Whether the same was put out for both.
-    fn is_same(&self, other: &Upstream) -> bool {
+    fn is_same(&self, other: &SeenUpstream) -> bool {
         self.route == other.route
             && self.text.as_slice() == other.text.as_slice()
             && self.is_closed == other.is_closed
@@ -75,7 +75,7 @@ impl Upstream {
 #[derive(Drop)]
 pub struct Told {
     pub client: Vec<u8>,
-    pub upstreams: Vec<Upstream>,
+    pub upstreams: Vec<SeenUpstream>,
     pub is_over: bool,
     /// How many octets the client's side took.
     taken: u64,
@@ -105,12 +105,12 @@ impl Told {
     }
 
     /// The connection of this number.
-    pub(crate) fn upstream(&self, k: u32) -> Option<&Upstream> {
+    pub(crate) fn upstream(&self, k: u32) -> Option<&SeenUpstream> {
         self.upstreams.get((k as usize).checked_sub(1)?)
     }
 
     /// The connection of this number, to be changed.
-    fn upstream_mut(&mut self, k: u32) -> Option<&mut Upstream> {
+    fn upstream_mut(&mut self, k: u32) -> Option<&mut SeenUpstream> {
         self.upstreams.get_mut((k as usize).checked_sub(1)?)
     }
 
@@ -149,7 +149,7 @@ impl Told {
         match output {
             Output::Client(octets) => self.client.extend_from_slice(octets)?,
             Output::Open(_, route) => {
-                let upstream = Upstream::opened(alloc, *route, self.stream);
+                let upstream = SeenUpstream::opened(alloc, *route, self.stream);
                 self.upstreams.push(upstream)?;
             }
             Output::Up(k, octets) => {
@@ -226,7 +226,7 @@ impl Told {
 }
 
 /// Whether the same was put out for connections, as far as both lists go.
-fn are_same(upstreams: &[Upstream], others: &[Upstream]) -> bool {
+fn are_same(upstreams: &[SeenUpstream], others: &[SeenUpstream]) -> bool {
     for (upstream, other) in upstreams.iter().zip(others) {
         if !upstream.is_same(other) {
             return false;

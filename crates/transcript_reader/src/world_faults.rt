@@ -3,10 +3,10 @@
 ghost use Rattle.gateway.specs.Setups.{setup_of, IsServable};
 
 use crate::texts::is_cut;
+use driver::{MemoryWorld, ServeFault, serve};
 use gateway::{Config, Event, Output};
-use scripts::{ScriptFault, read_script};
+use replay::{ScriptFault, read_script};
 use std::alloc::{AllocError, Global};
-use worlds::{MemoryWorld, ServeFault, serve};
 
 /// The events of a script, if each line of it is one.
 fn events_of(alloc: Global, script: &str) -> Result<Option<Vec<Event>>, AllocError> {
@@ -57,7 +57,8 @@ fn are_first(outputs: &[Output], all: &[Output]) -> bool {
     outputs.len() <= all.len()
 }
 
-/// Whether a log is a front of another one: the same events, and what was put out for each of them, for the last one some of the first.
+/// Whether a log is a front of another one: the same events, and what was put out for each of them,
+/// for the last one some of the first.
 fn is_front(log: &[(Event, Vec<Output>)], whole: &[(Event, Vec<Output>)]) -> bool {
     for (place, (step, other)) in log.iter().zip(whole).enumerate() {
         let is_last = place.saturating_add(1) == log.len();

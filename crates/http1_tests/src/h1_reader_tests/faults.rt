@@ -161,8 +161,9 @@ const CHUNKS_BEHIND_A_LENGTH: &[u8] =
 const CODING_BEHIND_LENGTHS: &[u8] =
     b"HTTP/1.0 200 OK\r\nContent-Length: 1\r\nContent-Length: 2\r\nTransfer-Encoding: y\r\n\r\n";
 
-/// Heads that could be refused for two reasons: too many fields before all else, a change of protocols before its place behind
-/// eight interim heads and before the lines of framing, a ninth interim head, and a coding before the lengths.
+/// Heads that could be refused for two reasons: too many fields before all else, a change of
+/// protocols before its place behind eight interim heads and before the lines of framing, a ninth
+/// interim head, and a coding before the lengths.
 static OF_TWO_REASONS: [Repeated<'static>; 7] = [
     Repeated {
         front: b"HTTP/1.1 101 OK\r\n",

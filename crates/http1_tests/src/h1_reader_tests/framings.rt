@@ -66,8 +66,8 @@ fn shown_of(alloc: Global, pieces: &[Piece], ended: Ended) -> Result<Vec<u8>, Al
     Ok(shown)
 }
 
-/// What is told of texts that have no fault: each head with its fields, the body, `done`, and what the end of the connection
-/// makes of it. Nothing where there is a fault.
+/// What is told of texts that have no fault: each head with its fields, the body, `done`, and what
+/// the end of the connection makes of it. Nothing where there is a fault.
 fn told(alloc: Global, to_head: bool, texts: &[&[u8]]) -> Result<Vec<u8>, AllocError> {
     let mut reader = Reader::new(alloc, to_head);
     let mut pieces = Vec::new(alloc);
@@ -101,9 +101,9 @@ fn is_told_by_octets(
 /// The octets that a response needs, what may follow, and what is told of it.
 type Row = (&'static [u8], &'static [u8], &'static [u8]);
 
-/// The first place at which a response may not be cut: it is told in another way, or before the octets that it needs are there
-/// the end of the connection doesn't make it short, or then not whole. The place behind all is told where it may not be cut
-/// at each octet.
+/// The first place at which a response may not be cut: it is told in another way, or before the
+/// octets that it needs are there the end of the connection doesn't make it short, or then not
+/// whole. The place behind all is told where it may not be cut at each octet.
 fn first_cut_that_differs(
     alloc: Global,
     to_head: bool,
@@ -160,9 +160,10 @@ fn first_that_differs(
     Ok(None)
 }
 
-/// Each framing, with the octets that it needs and what may follow: a length, two equal ones, one of 0, none in either version,
-/// chunks, the last chunk alone, chunks with spaces, extensions and trailers, trailers of which some are for the connection, none that
-/// are left, and each name that is dropped.
+/// Each framing, with the octets that it needs and what may follow: a length, two equal ones, one
+/// of 0, none in either version, chunks, the last chunk alone, chunks with spaces, extensions and
+/// trailers, trailers of which some are for the connection, none that are left, and each name that
+/// is dropped.
 static FRAMINGS: [Row; 13] = [
     (
         b"HTTP/1.1 200 OK\r\nContent-Length: 2\r\n\r\nhi",

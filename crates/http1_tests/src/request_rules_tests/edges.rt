@@ -5,8 +5,9 @@ use super::*;
 /// An octet, and what is told of it in two places.
 type Edge = (u8, Option<Rule>, Option<Rule>);
 
-/// An octet at an edge of the token's octets (RFC 9110, section 5.6.2), and what is told where it stands within a name and
-/// within a method. An octet that no value has breaks the rule of values first, which is judged before the method's.
+/// An octet at an edge of the token's octets (RFC 9110, section 5.6.2), and what is told where it
+/// stands within a name and within a method. An octet that no value has breaks the rule of values
+/// first, which is judged before the method's.
 static TOKEN_EDGES: [Edge; 44] = [
     (0x00, Some(Rule::Name), Some(Rule::Value)),
     (0x09, Some(Rule::Name), Some(Rule::Method)),
@@ -105,8 +106,8 @@ fn methods_are_tokens(rt: HostRuntime) -> Result<(), Fail> {
     Ok(())
 }
 
-/// An octet at an edge of a value's octets (RFC 9110, section 5.5), and what is told where it stands within a value and at
-/// an end of it.
+/// An octet at an edge of a value's octets (RFC 9110, section 5.5), and what is told where it
+/// stands within a value and at an end of it.
 static VALUE_EDGES: [Edge; 13] = [
     (0x00, Some(Rule::Value), Some(Rule::Value)),
     (0x08, Some(Rule::Value), Some(Rule::Value)),

@@ -1,8 +1,8 @@
 //! Header blocks by the error table, each row beside a frame that just keeps within.
 
-use causes::{Cause, Route};
+use connection_state::{BlockJudged, Connection, FrameError, Judged, Terms};
 use frames::View;
-use judgement::{BlockJudged, Connection, Fault, Judged, Terms};
+use local_replies::{Cause, RoutePattern};
 use std::alloc::{AllocError, Global};
 use std::slice;
 use std::test::*;
@@ -84,7 +84,7 @@ static LONG: [u8; 16384] = [0x82; 16384];
 enum Told {
     NoSuchFrame,
     Plain,
-    Failed(Fault),
+    Failed(FrameError),
     GoesOn,
     Begins(u32),
     Answered(Cause),
@@ -110,7 +110,7 @@ fn told_of(judged: BlockJudged) -> Told {
 /// Judges HEADERS or CONTINUATION.
 fn told_of_fragment(
     connection: &mut Connection,
-    routes: &[Route],
+    routes: &[RoutePattern],
     view: View<'_>,
 ) -> Result<Told, AllocError> {
     if view.payload.len() > 16384
@@ -141,7 +141,7 @@ fn told_of_other(connection: &mut Connection, view: View<'_>) -> Told {
 /// Judges a frame of any type.
 fn told_any(
     connection: &mut Connection,
-    routes: &[Route],
+    routes: &[RoutePattern],
     view: View<'_>,
 ) -> Result<Told, AllocError> {
     if view.kind == HEADERS || view.kind == CONTINUATION {
@@ -163,7 +163,7 @@ fn view_of<'a>(row: &Row<'a>) -> View<'a> {
 /// Whether what should comes of a frame with a fragment.
 fn is_as_told(
     connection: &mut Connection,
-    routes: &[Route],
+    routes: &[RoutePattern],
     row: &Row<'_>,
 ) -> Result<bool, AllocError> {
     let told = told_of_fragment(connection, routes, view_of(row))?;
@@ -173,7 +173,7 @@ fn is_as_told(
 /// The first of these frames, which are judged in turn, of which something else comes.
 fn first_that_differs(
     connection: &mut Connection,
-    routes: &[Route],
+    routes: &[RoutePattern],
     rows: &[Row<'_>],
 ) -> Result<Option<usize>, AllocError> {
     for (place, row) in rows.iter().enumerate() {
@@ -187,7 +187,7 @@ fn first_that_differs(
 /// The same, as frames of any type.
 fn first_of_any(
     connection: &mut Connection,
-    routes: &[Route],
+    routes: &[RoutePattern],
     rows: &[Row<'_>],
 ) -> Result<Option<usize>, AllocError> {
     for (place, row) in rows.iter().enumerate() {
@@ -208,10 +208,11 @@ fn respond(connection: &mut Connection) {
 /// A request that its client ends.
 static ENDED: Row<'static> = (HEADERS, ALL, 1, GET, Told::Begins(0));
 
-/// The first of these frames behind a request that its client ends, and behind the response to it. Where no request begins, it is one behind all.
+/// The first of these frames behind a request that its client ends, and behind the response to it.
+/// Where no request begins, it is one behind all.
 fn first_behind_a_response(
     connection: &mut Connection,
-    routes: &[Route],
+    routes: &[RoutePattern],
     rows: &[Row<'_>],
 ) -> Result<Option<usize>, AllocError> {
     if !is_as_told(connection, routes, &ENDED)? {
@@ -222,7 +223,10 @@ fn first_behind_a_response(
 }
 
 /// Whether requests begin on the first hundred streams.
-fn a_hundred_begin(connection: &mut Connection, routes: &[Route]) -> Result<bool, AllocError> {
+fn a_hundred_begin(
+    connection: &mut Connection,
+    routes: &[RoutePattern],
+) -> Result<bool, AllocError> {
     for place in 0u32..100 {
         let row = (HEADERS, WHOLE, 2 * place + 1, GET, Told::Begins(0));
         if !is_as_told(connection, routes, &row)? {
@@ -232,10 +236,11 @@ fn a_hundred_begin(connection: &mut Connection, routes: &[Route]) -> Result<bool
     Ok(true)
 }
 
-/// The first of these frames behind requests on a hundred streams. Where one of them doesn't begin, it is one behind all.
+/// The first of these frames behind requests on a hundred streams. Where one of them doesn't begin,
+/// it is one behind all.
 fn first_behind_a_hundred(
     connection: &mut Connection,
-    routes: &[Route],
+    routes: &[RoutePattern],
     rows: &[Row<'_>],
 ) -> Result<Option<usize>, AllocError> {
     if !a_hundred_begin(connection, routes)? {
@@ -260,7 +265,7 @@ enum Taken {
 /// The first of these frames of which something else comes, on a connection that is lent.
 fn first_on(
     connection: &mut Connection,
-    routes: &[Route],
+    routes: &[RoutePattern],
     taken: Taken,
     rows: &[Row<'_>],
 ) -> Result<Option<usize>, AllocError> {
@@ -273,9 +278,9 @@ fn first_on(
 }
 
 /// A route for the paths with this front.
-fn route_of(alloc: Global, prefix: &[u8]) -> Result<Route, AllocError> {
+fn route_of(alloc: Global, prefix: &[u8]) -> Result<RoutePattern, AllocError> {
     let prefix = Vec::from_slice(alloc, prefix)?;
-    Ok(Route {
+    Ok(RoutePattern {
         authority: Vec::new(alloc),
         prefix,
     })
@@ -322,9 +327,15 @@ static TABLES: [(&str, Taken, &[Row]); 9] = [
                 WHOLE,
                 1,
                 GET,
-                Told::Failed(Fault::Connection(1)),
+                Told::Failed(FrameError::Connection(1)),
             ),
-            (DATA, 0, 1, TRAILERS, Told::Failed(Fault::Connection(1))),
+            (
+                DATA,
+                0,
+                1,
+                TRAILERS,
+                Told::Failed(FrameError::Connection(1)),
+            ),
             (HEADERS, WHOLE, 1, GET, Told::Begins(0)),
             (DATA, 0, 1, TRAILERS, Told::Plain),
         ],
@@ -334,10 +345,28 @@ static TABLES: [(&str, Taken, &[Row]); 9] = [
         Taken::AsFragments,
         &[
             (HEADERS, ALL, 1, GET, Told::Begins(0)),
-            (HEADERS, ALL, 1, TRAILERS, Told::Failed(Fault::Stream(5))),
-            (HEADERS, ALL, 1, TRAILERS, Told::Failed(Fault::Discarded)),
+            (
+                HEADERS,
+                ALL,
+                1,
+                TRAILERS,
+                Told::Failed(FrameError::Stream(5)),
+            ),
+            (
+                HEADERS,
+                ALL,
+                1,
+                TRAILERS,
+                Told::Failed(FrameError::Discarded),
+            ),
             (HEADERS, ALL, 5, GET, Told::Begins(0)),
-            (HEADERS, ALL, 3, GET, Told::Failed(Fault::Connection(1))),
+            (
+                HEADERS,
+                ALL,
+                3,
+                GET,
+                Told::Failed(FrameError::Connection(1)),
+            ),
         ],
     ),
     (
@@ -349,10 +378,16 @@ static TABLES: [(&str, Taken, &[Row]); 9] = [
                 WHOLE,
                 1,
                 GET,
-                Told::Failed(Fault::Connection(1)),
+                Told::Failed(FrameError::Connection(1)),
             ),
             (HEADERS, ENDS, 1, GET_FRONT, Told::GoesOn),
-            (HEADERS, WHOLE, 3, GET, Told::Failed(Fault::Connection(1))),
+            (
+                HEADERS,
+                WHOLE,
+                3,
+                GET,
+                Told::Failed(FrameError::Connection(1)),
+            ),
             (CONTINUATION, 0, 1, GET_MORE, Told::GoesOn),
             (CONTINUATION, WHOLE, 1, GET_REST, Told::Begins(0)),
         ],
@@ -362,20 +397,26 @@ static TABLES: [(&str, Taken, &[Row]); 9] = [
         "payloads hold their fragments",
         Taken::AsFragments,
         &[
-            (HEADERS, PADDED, 1, b"", Told::Failed(Fault::Connection(6))),
+            (
+                HEADERS,
+                PADDED,
+                1,
+                b"",
+                Told::Failed(FrameError::Connection(6)),
+            ),
             (
                 HEADERS,
                 WITH_PRIORITY,
                 1,
                 b"1234",
-                Told::Failed(Fault::Connection(6)),
+                Told::Failed(FrameError::Connection(6)),
             ),
             (
                 HEADERS,
                 PADDED,
                 1,
                 TOO_MUCH_PADDING,
-                Told::Failed(Fault::Connection(1)),
+                Told::Failed(FrameError::Connection(1)),
             ),
             (HEADERS, PADDED, 1, ALL_PADDING, Told::GoesOn),
             (CONTINUATION, WHOLE, 1, GET, Told::Begins(0)),
@@ -388,8 +429,8 @@ static TABLES: [(&str, Taken, &[Row]); 9] = [
             ),
         ],
     ),
-    // Trailers that end their request, that don't, that come before all octets that the head declares, that have a pseudo-field, of which
-    // one is passed on, and of which none is.
+    // Trailers that end their request, that don't, that come before all octets that the head
+    // declares, that have a pseudo-field, of which one is passed on, and of which none is.
     (
         "trailers end a request",
         Taken::AsFragments,
@@ -397,11 +438,23 @@ static TABLES: [(&str, Taken, &[Row]); 9] = [
             (HEADERS, WHOLE, 1, GET, Told::Begins(0)),
             (HEADERS, ALL, 1, TRAILERS, Told::Trailers(1)),
             (HEADERS, WHOLE, 3, GET, Told::Begins(0)),
-            (HEADERS, WHOLE, 3, TRAILERS, Told::Failed(Fault::Stream(1))),
+            (
+                HEADERS,
+                WHOLE,
+                3,
+                TRAILERS,
+                Told::Failed(FrameError::Stream(1)),
+            ),
             (HEADERS, WHOLE, 5, POST, Told::Begins(0)),
-            (HEADERS, ALL, 5, TRAILERS, Told::Failed(Fault::Stream(1))),
+            (
+                HEADERS,
+                ALL,
+                5,
+                TRAILERS,
+                Told::Failed(FrameError::Stream(1)),
+            ),
             (HEADERS, WHOLE, 7, GET, Told::Begins(0)),
-            (HEADERS, ALL, 7, PATH, Told::Failed(Fault::Stream(1))),
+            (HEADERS, ALL, 7, PATH, Told::Failed(FrameError::Stream(1))),
             (HEADERS, WHOLE, 9, GET, Told::Begins(0)),
             (HEADERS, ALL, 9, SOME_DROPPED, Told::Trailers(1)),
             (HEADERS, WHOLE, 11, GET, Told::Begins(0)),
@@ -420,7 +473,7 @@ static TABLES: [(&str, Taken, &[Row]); 9] = [
                 ALL,
                 1,
                 TRAILERS,
-                Told::Failed(Fault::Connection(5)),
+                Told::Failed(FrameError::Connection(5)),
             ),
         ],
     ),
@@ -433,23 +486,36 @@ static TABLES: [(&str, Taken, &[Row]); 9] = [
             ALL,
             1,
             TRAILERS,
-            Told::Failed(Fault::Connection(5)),
+            Told::Failed(FrameError::Connection(5)),
         )],
     ),
-    // A head without a path, one on a stream that is over, one on a stream of the server, and one that can't be decoded.
+    // A head without a path, one on a stream that is over, one on a stream of the server, and one
+    // that can't be decoded.
     (
         "heads that are none",
         Taken::AsFragments,
         &[
-            (HEADERS, ALL, 1, GET_FRONT, Told::Failed(Fault::Stream(1))),
-            (HEADERS, ALL, 1, GET, Told::Failed(Fault::Discarded)),
-            (HEADERS, ALL, 2, GET, Told::Failed(Fault::Connection(1))),
+            (
+                HEADERS,
+                ALL,
+                1,
+                GET_FRONT,
+                Told::Failed(FrameError::Stream(1)),
+            ),
+            (HEADERS, ALL, 1, GET, Told::Failed(FrameError::Discarded)),
+            (
+                HEADERS,
+                ALL,
+                2,
+                GET,
+                Told::Failed(FrameError::Connection(1)),
+            ),
             (
                 HEADERS,
                 ALL,
                 3,
                 NO_BLOCK,
-                Told::Failed(Fault::Connection(9)),
+                Told::Failed(FrameError::Connection(9)),
             ),
         ],
     ),
@@ -457,8 +523,20 @@ static TABLES: [(&str, Taken, &[Row]); 9] = [
         "the 101st stream is refused",
         Taken::BehindAHundred,
         &[
-            (HEADERS, WHOLE, 201, GET, Told::Failed(Fault::Stream(7))),
-            (HEADERS, WHOLE, 201, GET, Told::Failed(Fault::Discarded)),
+            (
+                HEADERS,
+                WHOLE,
+                201,
+                GET,
+                Told::Failed(FrameError::Stream(7)),
+            ),
+            (
+                HEADERS,
+                WHOLE,
+                201,
+                GET,
+                Told::Failed(FrameError::Discarded),
+            ),
         ],
     ),
 ];
@@ -484,7 +562,7 @@ fn blocks_have_a_length(rt: HostRuntime) -> Result<(), Fail> {
             WHOLE,
             1,
             PATH,
-            Told::Failed(Fault::Connection(11)),
+            Told::Failed(FrameError::Connection(11)),
         ),
     ];
     assert_eq!(rt; first_of(rt.alloc(), Taken::AsFragments, &rows)?, None);

@@ -5,10 +5,10 @@ use super::plain::{
     first_that_differs, is_as_told, open_all,
 };
 use crate::streams_seen::BEGUN;
-use judgement::{Connection, Fault, Judged};
+use connection_state::{Connection, FrameError, Judged};
 use std::alloc::Global;
 use std::test::*;
-use streams_kept::Course;
+use streams::Course;
 
 /// The longest payload, what three leave of a window, the same less one octet, and what two leave of the longest body.
 static WHOLE: [u8; 16384] = [7; 16384];
@@ -86,9 +86,10 @@ fn give_back_one(connection: &mut Connection) {
 }
 
 /// One octet on stream 1 for which it has no room.
-static PAST: Row<'static> = (0, 0, 1, b"a", Judged::Failed(Fault::Stream(3)));
+static PAST: Row<'static> = (0, 0, 1, b"a", Judged::Failed(FrameError::Stream(3)));
 
-/// Fills the windows of the connection and of stream 1, but for 16,383 octets. The gateway replies itself, as that is past the most octets of a body.
+/// Fills the windows of the connection and of stream 1, but for 16,383 octets. The gateway replies
+/// itself, as that is past the most octets of a body.
 fn fill(connection: &mut Connection) -> Result<(), Fail> {
     let rows: [Row<'_>; 3] = [
         (0, 0, 1, &WHOLE, Judged::Content(&WHOLE, false)),
@@ -110,8 +111,8 @@ fn first_behind_filling(
     Ok(first_that_differs(connection, rows))
 }
 
-/// The same. Behind these frames an octet is given back to the connection, and one more comes on the stream, for which that has no room. If it has, that is
-/// one behind all.
+/// The same. Behind these frames an octet is given back to the connection, and one more comes on
+/// the stream, for which that has no room. If it has, that is one behind all.
 fn first_before_the_last(
     connection: &mut Connection,
     rows: &[Row<'_>],
@@ -151,7 +152,7 @@ fn windows_go_before_ends(rt: HostRuntime) -> Result<(), Fail> {
 fn ends_are_ends_within_windows(rt: HostRuntime) -> Result<(), Fail> {
     let rows: [Row<'_>; 2] = [
         (0, 1, 1, &LESS, Judged::Content(&LESS, true)),
-        (0, 0, 1, b"a", Judged::Failed(Fault::Stream(5))),
+        (0, 0, 1, b"a", Judged::Failed(FrameError::Stream(5))),
     ];
     let mut connection = Connection::new(rt.alloc());
     assert_eq!(rt; first_behind_filling(&mut connection, &rows)?, None);
@@ -163,7 +164,7 @@ static STATES: [Row<'static>; 8] = [
     (0, 0, 2, b"a", PROTOCOL_ERROR),
     (0, 0, 1, b"a", STREAM_CLOSED),
     (0, 1, 3, b"a", Judged::Content(b"a", true)),
-    (0, 0, 3, b"a", Judged::Failed(Fault::Stream(5))),
+    (0, 0, 3, b"a", Judged::Failed(FrameError::Stream(5))),
     (0, 0, 3, b"a", DISCARDED),
     (3, 0, 5, b"code", Judged::Reset),
     (0, 0, 5, b"a", STREAM_CLOSED),
@@ -178,7 +179,13 @@ fn content_comes_on_active_streams(rt: HostRuntime) -> Result<(), Fail> {
 #[test]
 fn discarded_octets_take_room(rt: HostRuntime) -> Result<(), Fail> {
     let rows: [Row<'_>; 5] = [
-        (8, 0, 1, &[0, 0, 0, 0], Judged::Failed(Fault::Stream(1))),
+        (
+            8,
+            0,
+            1,
+            &[0, 0, 0, 0],
+            Judged::Failed(FrameError::Stream(1)),
+        ),
         (0, 0, 1, &WHOLE, DISCARDED),
         (0, 0, 1, &WHOLE, DISCARDED),
         (0, 0, 1, &WHOLE, DISCARDED),
@@ -192,10 +199,10 @@ fn discarded_octets_take_room(rt: HostRuntime) -> Result<(), Fail> {
 static DECLARED: [Row<'static>; 6] = [
     (0, 0, 1, b"abcd", Judged::Content(b"abcd", false)),
     (0, 1, 1, b"e", Judged::Content(b"e", true)),
-    (0, 0, 3, b"abcdef", Judged::Failed(Fault::Stream(1))),
-    (0, 1, 5, b"abcd", Judged::Failed(Fault::Stream(1))),
+    (0, 0, 3, b"abcdef", Judged::Failed(FrameError::Stream(1))),
+    (0, 1, 5, b"abcd", Judged::Failed(FrameError::Stream(1))),
     (0, 0, 7, b"abcde", Judged::Content(b"abcde", false)),
-    (0, 0, 7, b"f", Judged::Failed(Fault::Stream(1))),
+    (0, 0, 7, b"f", Judged::Failed(FrameError::Stream(1))),
 ];
 
 #[test]

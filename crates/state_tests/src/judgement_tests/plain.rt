@@ -1,15 +1,16 @@
-//! The rows of the error table for frames without a fragment of a header block, each beside a frame that just keeps within.
+//! The rows of the error table for frames without a fragment of a header block, each beside a frame
+//! that just keeps within.
 
 use super::open_if_idle;
 use crate::streams_seen::BEGUN;
+use connection_state::{Connection, FrameError, Judged};
 use frames::View;
-use judgement::{Connection, Fault, Judged};
 use settings::Change;
 use std::alloc::{AllocError, Global};
 use std::process::Abort;
 use std::test::*;
 use stream_state::{Kind, Verdict};
-use streams_kept::Course;
+use streams::Course;
 
 /// The most octets of a body.
 const MOST: u64 = 40000;
@@ -18,19 +19,20 @@ const MOST: u64 = 40000;
 pub type Row<'a> = (u8, u8, u32, &'a [u8], Judged<'a>);
 
 /// Errors of the connection, with their codes.
-pub const PROTOCOL_ERROR: Judged<'static> = Judged::Failed(Fault::Connection(1));
+pub const PROTOCOL_ERROR: Judged<'static> = Judged::Failed(FrameError::Connection(1));
 
-pub const FLOW_CONTROL_ERROR: Judged<'static> = Judged::Failed(Fault::Connection(3));
+pub const FLOW_CONTROL_ERROR: Judged<'static> = Judged::Failed(FrameError::Connection(3));
 
-pub const STREAM_CLOSED: Judged<'static> = Judged::Failed(Fault::Connection(5));
+pub const STREAM_CLOSED: Judged<'static> = Judged::Failed(FrameError::Connection(5));
 
-pub const FRAME_SIZE_ERROR: Judged<'static> = Judged::Failed(Fault::Connection(6));
+pub const FRAME_SIZE_ERROR: Judged<'static> = Judged::Failed(FrameError::Connection(6));
 
-pub const ENHANCE_YOUR_CALM: Judged<'static> = Judged::Failed(Fault::Connection(11));
+pub const ENHANCE_YOUR_CALM: Judged<'static> = Judged::Failed(FrameError::Connection(11));
 
-pub const DISCARDED: Judged<'static> = Judged::Failed(Fault::Discarded);
+pub const DISCARDED: Judged<'static> = Judged::Failed(FrameError::Discarded);
 
-/// Settings that change the first size of windows by so many octets: by none, to 10, from 10 to the most, and to one more than at first.
+/// Settings that change the first size of windows by so many octets: by none, to 10, from 10 to the
+/// most, and to one more than at first.
 const UNCHANGED: Change = Change {
     difference: 0,
     smallest: None,
@@ -216,12 +218,25 @@ fn frames_are_judged_as_they_should(rt: HostRuntime) {
     }
 }
 
-/// Windows of streams 3, 5 and 9 that grow or grow too large, and resets, beside frames on streams that aren't active any more.
+/// Windows of streams 3, 5 and 9 that grow or grow too large, and resets, beside frames on streams
+/// that aren't active any more.
 static GRANTS: [Row<'static>; 16] = [
     (8, 0, 3, &[127, 255, 0, 0], Judged::Granted),
     (4, 0, 0, &[0, 4, 0, 1, 0, 0], FLOW_CONTROL_ERROR),
-    (8, 0, 3, &[0, 0, 0, 1], Judged::Failed(Fault::Stream(3))),
-    (8, 0, 5, &[0, 0, 0, 0], Judged::Failed(Fault::Stream(1))),
+    (
+        8,
+        0,
+        3,
+        &[0, 0, 0, 1],
+        Judged::Failed(FrameError::Stream(3)),
+    ),
+    (
+        8,
+        0,
+        5,
+        &[0, 0, 0, 0],
+        Judged::Failed(FrameError::Stream(1)),
+    ),
     (8, 0, 9, &[0, 0, 0, 1], Judged::Granted),
     (3, 0, 9, b"code", Judged::Reset),
     (3, 0, 1, b"code", DISCARDED),

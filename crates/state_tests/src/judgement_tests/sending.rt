@@ -2,13 +2,13 @@
 
 use super::open_if_idle;
 use crate::streams_seen::{self, BEGUN, Fact, Seen};
+use connection_state::Connection;
 use frames::View;
-use judgement::Connection;
 use std::alloc::AllocError;
 use std::process::Abort;
 use std::test::*;
 use stream_state::{Standing, State};
-use streams_kept::{Cause, Course, Reply};
+use streams::{Cause, Course, Reply};
 
 /// What goes out on stream 1, or comes to it.
 #[derive(Clone, Copy)]
@@ -119,7 +119,7 @@ enum Of<'a> {
     /// Whether a stream is served.
     Served(u32, bool),
     /// Whether it is spent.
-    Spent(bool),
+    Exhausted(bool),
     /// What is seen of its streams.
     Streams(&'a [Fact]),
 }
@@ -137,7 +137,7 @@ fn is_so(connection: &Connection, seen: Of<'_>) -> bool {
         Of::WindowOn(octets) => window_on(connection) == Some(octets),
         Of::Room(octets) => connection.room() == octets,
         Of::Served(id, is) => connection.is_served(id) == is,
-        Of::Spent(is) => connection.is_spent() == is,
+        Of::Exhausted(is) => connection.is_exhausted() == is,
         Of::Streams(facts) => streams_seen::are_so(connection.streams(), facts),
     }
 }
@@ -185,7 +185,8 @@ fn first_behind_opening(
     Ok(first_on(connection, rows))
 }
 
-/// The first of these rows that goes otherwise on a connection with one active stream, 1, which its client has ended or not.
+/// The first of these rows that goes otherwise on a connection with one active stream, 1, which its
+/// client has ended or not.
 fn first_that_differs(
     rt: &HostRuntime,
     ended: bool,
@@ -328,17 +329,19 @@ fn respond(connection: &mut Connection, id: u32, ends: bool) {
     }
 }
 
-/// Opens a stream that its client has ended, and sends a response's final head on it, which ends it or doesn't; says whether it was opened.
+/// Opens a stream that its client has ended, and sends a response's final head on it, which ends it
+/// or doesn't; says whether it was opened.
 fn serves(connection: &mut Connection, id: u32, ends: bool) -> Result<bool, AllocError> {
     let opened = open_if_idle(connection, id, BEGUN, true)?;
     respond(connection, id, ends);
     Ok(opened)
 }
 
-/// The first place at which a connection is spent, or on which no stream is opened: of 10,000, all but the last of which are over.
+/// The first place at which a connection is spent, or on which no stream is opened: of 10,000, all
+/// but the last of which are over.
 fn first_unserved(connection: &mut Connection) -> Result<Option<u32>, AllocError> {
     for place in 0u32..10000 {
-        if connection.is_spent() || !serves(connection, 2 * place + 1, place != 9999)? {
+        if connection.is_exhausted() || !serves(connection, 2 * place + 1, place != 9999)? {
             return Ok(Some(place));
         }
     }
@@ -353,19 +356,19 @@ fn reset(connection: &mut Connection, id: u32) {
 }
 
 /// What is seen where the last of 10,000 streams is still active.
-static COUNTED: [Of<'static>; 2] = [Of::Streams(&[Fact::Count(10000)]), Of::Spent(false)];
+static COUNTED: [Of<'static>; 2] = [Of::Streams(&[Fact::Count(10000)]), Of::Exhausted(false)];
 
 /// A connection is spent once 10,000 streams were served and none is active any more.
-fn assert_is_spent(rt: &impl Abort, connection: &mut Connection) -> Result<(), AllocError> {
+fn assert_is_exhausted(rt: &impl Abort, connection: &mut Connection) -> Result<(), AllocError> {
     assert_eq!(rt; first_unserved(connection)?, None);
     assert!(rt; are_so(connection, &COUNTED));
     reset(connection, 19999);
-    assert!(rt; connection.is_spent());
+    assert!(rt; connection.is_exhausted());
     Ok(())
 }
 
 #[test]
-fn connections_are_spent(rt: HostRuntime) -> Result<(), Fail> {
-    assert_is_spent(&rt, &mut Connection::new(rt.alloc()))?;
+fn connections_are_exhausted(rt: HostRuntime) -> Result<(), Fail> {
+    assert_is_exhausted(&rt, &mut Connection::new(rt.alloc()))?;
     Ok(())
 }

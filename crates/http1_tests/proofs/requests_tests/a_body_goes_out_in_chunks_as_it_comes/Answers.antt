@@ -2,8 +2,8 @@ use Rattle.std.proofs.Common.{rules, ◌≡◌, ℕ, List, [], ◌∷◌, ◌++�
 use Rattle.std.specs.List.{concat}
 use Rattle.model.specs.Http2.{HasLength}
 use Rattle.h1_writer.specs.Sending.{Stage, Sending, HasRoom, piece_of}
-use Rattle.requests.specs.Going.{GoesOn}
-use Rattle.requests.proofs.Passing.{goes_further}
+use Rattle.request_buffer.specs.Going.{GoesOn}
+use Rattle.request_buffer.proofs.Passing.{goes_further}
 use Rattle.http1_tests.proofs.requests_tests.a_body_goes_out_in_chunks_as_it_comes.Goals as goal
 
 pub pass-requires-2 : goal.pass-requires-2

@@ -1,9 +1,9 @@
 use Rattle.std.proofs.Common.{◌≡◌, ◌∙◌, ◌&&◌, true, false, refl, ap, sym}
-use Rattle.outputs.specs.Views.{event_of}
-use Rattle.conduct.specs.Rule.{known_of}
-use Rattle.conduct.proofs.Knowing.{known_so}
-use Rattle.policy.specs.State.{conducts}
-use Rattle.steps.specs.Admission.{admits as admits_kept}
+use Rattle.effects.specs.Views.{event_of}
+use Rattle.theory_errors.specs.Rule.{known_of}
+use Rattle.theory_errors.proofs.Knowing.{known_so}
+use Rattle.theory.specs.State.{conducts}
+use Rattle.event_handlers.specs.Admission.{admits as admits_kept}
 use Rattle.gateway.specs.Stands.{admits}
 use Rattle.gateway.proofs.Admitting.{admitted_in, in_admitted}
 use Rattle.gateway.proofs.gateway.Gateway.admits.Goals as goal

@@ -1,7 +1,7 @@
 use Rattle.std.specs.Prelude.{nat_lt}
 use Rattle.std.proofs.Common.{◌≡◌, true, false, ap, subst, sym, ◌∙◌}
 use Rattle.model.specs.Limits.{most_untaken}
-use Rattle.steps.specs.Resting.{IsSettled}
+use Rattle.event_handlers.specs.Resting.{IsSettled}
 use Rattle.gateway.specs.Stands.{Standing, IsFresh}
 use Rattle.gateway.specs.Receiving.{Greets}
 use Rattle.gateway.proofs.Pieces.{greets_none, greets_first}
@@ -24,7 +24,7 @@ returns-in_ok-greet c =
       | in-New w ↦ ap (λ (g : Standing). g.phase) (sym c.self.view_is) ∙ w.in-New.is
       | in_default w ↦ absurd (let both : true ≡ false = sym c.if-matches.true ∙ w.matches-is in cc)
     ] in
-    rw (← c.self.view_is) (greets_first _ c.greet.new.rooms c.args.out.now c.greet.new.out (ap (λ (g : Standing). g.phase) c.self.view_is ∙ new) (subst (λ (g : Standing). IsSettled g.kept) (sym c.self.view_is) c.requires.settled) c.requires.nothing c.in_ok-greet.ensures.performs c.in_ok-greet.ensures.puts c.in_ok-greet.ensures.counts)
+    rw (← c.self.view_is) (greets_first _ c.greet.new.session c.args.out.now c.greet.new.out (ap (λ (g : Standing). g.phase) c.self.view_is ∙ new) (subst (λ (g : Standing). IsSettled g.kept) (sym c.self.view_is) c.requires.settled) c.requires.nothing c.in_ok-greet.ensures.performs c.in_ok-greet.ensures.puts c.in_ok-greet.ensures.counts)
 
 -- nothing was put out yet
 pub greet-requires : goal.greet-requires

@@ -1,7 +1,7 @@
 use Rattle.std.proofs.Common.{◌∙◌, ap, subst, sym, if◌then◌else◌}
-use Rattle.conduct.specs.Rule.{known_of}
-use Rattle.policy.specs.State.{conducts, tape_of}
-use Rattle.steps.specs.Admission.{room_on}
+use Rattle.theory_errors.specs.Rule.{known_of}
+use Rattle.theory.specs.State.{conducts, tape_of}
+use Rattle.event_handlers.specs.Admission.{room_on}
 use Rattle.gateway.specs.Rooms.{TellsRoom}
 use Rattle.gateway.proofs.Admitting.{room_by_log}
 use Rattle.gateway.proofs.gateway.Gateway.room.Goals as goal

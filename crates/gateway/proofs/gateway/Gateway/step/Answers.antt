@@ -1,5 +1,5 @@
 use Rattle.std.proofs.Common.{◌∷◌, ◌++◌, ap, sym, ◌∙◌}
-use Rattle.outputs.specs.Views.{event_of}
+use Rattle.effects.specs.Views.{event_of}
 use Rattle.gateway.specs.Stands.{Standing}
 use Rattle.gateway.specs.Stands.{is_open}
 use Rattle.gateway.proofs.Sizes.{empty_within, none_in}

@@ -1,7 +1,7 @@
 use Rattle.std.proofs.Common.{◌≡◌, ◌++◌, ap, ◌∙◌, ℕ}
 use Rattle.std.specs.declared.vec.Vec.{Vec}
 use Rattle.std.specs.declared.alloc.Global.{Global}
-use Rattle.steps.proofs.Results.{if_ok}
+use Rattle.event_handlers.proofs.Results.{if_ok}
 use Rattle.gateway.proofs.Pieces.{receives_waited}
 use Rattle.gateway.proofs.gateway.Gateway.take_behind.Goals as goal
 

@@ -1,8 +1,8 @@
 use Rattle.std.proofs.Common.{◌≡◌, ◌∙◌, reverse, ap, sym, subst, true, false}
 use Rattle.std.proofs.lemmas.Bool.{and_parts}
 use Rattle.model.specs.Logs.{client_in}
-use Rattle.outputs.specs.Views.{event_of}
-use Rattle.steps.specs.Admission.{admits as admits_kept}
+use Rattle.effects.specs.Views.{event_of}
+use Rattle.event_handlers.specs.Admission.{admits as admits_kept}
 use Rattle.gateway.specs.declared.phase.Phase.TheVariants as phase
 use Rattle.gateway.specs.Stands.{Standing, StandsNext, is_open}
 use Rattle.gateway.proofs.Admitting.{admitted_in}

@@ -1,6 +1,6 @@
 use Rattle.std.proofs.Common.{sym, ◌∙◌}
 use Rattle.std.specs.List.{list_any}
-use Rattle.outputs.specs.Views.{event_of, output_of, outputs_of}
+use Rattle.effects.specs.Views.{event_of, output_of, outputs_of}
 use Rattle.gateway.specs.Rooms.{fails, turns}
 use Rattle.gateway.proofs.Rooms.{rooms_stay, turns_seen, either_false, on_ok}
 use Rattle.gateway.proofs.gateway.Gateway.update_rooms.Goals as goal

@@ -1,3 +1,0 @@
-pub mod Waiting
-pub mod Hearing
-pub mod HeldInside

@@ -1,7 +1,0 @@
-//! The answer of an upstream, read as it comes and put on offer for its stream.
-#![tactic(auto)]
-
-mod answer;
-pub mod laws;
-
-pub use crate::answer::{Answer, Ended, Heard, Passing};

@@ -1,6 +1,0 @@
-use Rattle.std.proofs.Common.{◌∙◌}
-use Rattle.causes.proofs.Routes.{front_told}
-use Rattle.causes.proofs.route.begins_with.Goals as goal
-
-pub returns : goal.returns
-returns c = c.starts_with.ensures.value ∙ front_told c.args.front.now c.args.text.now

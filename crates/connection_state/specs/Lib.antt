@@ -1,0 +1,12 @@
+pub use Rattle.theory_errors.specs.Book
+pub use Rattle.theory_errors.specs.Quiet
+pub use Rattle.model.specs.Frames
+pub use Rattle.model.specs.Errors
+pub mod Joined
+pub mod Inbound
+pub mod Judgement
+pub mod Blocks
+pub mod Fragments
+pub mod Admission
+pub mod Sending
+pub mod AnyFrame

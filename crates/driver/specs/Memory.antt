@@ -1,0 +1,50 @@
+-- What a world in memory keeps.
+use Rattle.std.specs.Prelude.{◌≡◌, ◌==◌, ◌-◌, ℕ, Bool, false, if◌then◌else◌, Option, Some, None, List, [], ◌∷◌, map, drop}
+use Rattle.std.specs.declared.vec.Vec.{Vec}
+use Rattle.std.specs.declared.alloc.Global.{Global}
+use Rattle.model.specs.Logs as logs
+use Rattle.model.specs.Logs.{Step}
+use Rattle.effects.specs.declared.events.Event.{Event}
+use Rattle.effects.specs.declared.events.Output.{Output}
+use Rattle.effects.specs.Views.{event_of, outputs_of}
+use Rattle.driver.specs.Worlds.{Handed}
+use Rattle.driver.specs.declared.memory.MemoryWorld.{MemoryWorld}
+use Rattle.driver.specs.declared.world.Next.{Next}
+use Rattle.driver.specs.declared.world.Next.TheVariants.{Happened, Nothing, Over}
+
+abbrev pub step_of : Event × Vec Output Global → Step
+step_of pair = record { event = event_of pair.0; outputs = outputs_of pair.1.items }
+
+abbrev pub steps_of : List (Event × Vec Output Global) → List Step
+steps_of log = map step_of log
+
+-- its log
+abbrev pub log_in : MemoryWorld → List Step
+log_in world = steps_of world.log.items
+
+-- what its calls of `next` were handed
+abbrev pub handed_of : ℕ × Vec (ℕ × ℕ) Global → Handed
+handed_of pair = record { steps = pair.0; rooms = pair.1.items }
+
+abbrev pub handed_in : MemoryWorld → List Handed
+handed_in world = map handed_of world.handed.items
+
+-- the events that are to come
+abbrev pub left_in : MemoryWorld → List logs.Event
+left_in world = map event_of (drop world.given world.events.items)
+
+-- What comes next is the first event that was left; where none was, nothing comes any more.
+abbrev pub Gives : List logs.Event → Next → List logs.Event → Type 0
+Gives old (Happened event) new = old ≡ event_of event ∷ new
+Gives old Over new = (old ≡ []) × (new ≡ [])
+Gives old Nothing new = ⊥
+
+-- whether the call that comes fails, by how many come before the one that does
+abbrev pub is_due : Option ℕ → Bool
+is_due None = false
+is_due (Some n) = n == 0
+
+-- how many come before it behind that call
+abbrev pub one_fewer : Option ℕ → Option ℕ
+one_fewer None = None
+one_fewer (Some n) = if n == 0 then None else Some (n - 1)

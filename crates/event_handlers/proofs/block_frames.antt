@@ -1,0 +1,11 @@
+mod Lists
+mod Streams
+mod Before
+mod Lasts
+mod Cases
+mod Additions
+mod Passed
+mod Assembled
+mod Requests
+mod Replies
+mod Judged

@@ -1,0 +1,4 @@
+pub mod Closes
+pub mod Goaways
+pub mod Ends
+pub mod Shutting

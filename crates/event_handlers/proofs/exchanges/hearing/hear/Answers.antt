@@ -1,0 +1,175 @@
+use Rattle.std.proofs.Common.{◌<◌, ap, sym, ◌∙◌, subst}
+use Rattle.upstream_response.specs.declared.answer.Heard.{Heard}
+use Rattle.model.specs.Logs.Event.{Up}
+use Rattle.model.specs.Tapes.Entry.{Happened}
+use Rattle.theory_requests.specs.Lines.{find}
+use Rattle.theory_requests.specs.Lines.Heard.{Finished}
+use Rattle.streams.specs.Asked.{has, is_active}
+use Rattle.connection_state.specs.Inbound.{Inbound}
+use Rattle.theory_responses.specs.State as theory_responses
+use Rattle.upstream_connections.specs.Connections.{number_of}
+use Rattle.upstream_connections.specs.Progress.{heard_of}
+use Rattle.refinement.specs.View.{View, balanced}
+use Rattle.refinement.specs.Rest.{NoneCut, NoneDone}
+use Rattle.refinement.specs.Bringing.{Brings}
+use Rattle.event_handlers.specs.exchanges.Finishing.{closed_by}
+use Rattle.event_handlers.specs.exchanges.Taking.{AreTaken}
+use Rattle.event_handlers.proofs.Closings.{if_any, if_stream}
+use Rattle.event_handlers.proofs.Results.{if_ok, on_over}
+use Rattle.event_handlers.proofs.exchanges.Closes.{if_then, found_for, if_found, idle_for, stream_active, stream_numbered, stream_kept, goes_on, fails, fails_over, taken_none_cut, abandoned_none_cut, abandoned_numbered}
+use Rattle.event_handlers.proofs.exchanges.Done.{abandoned_none_but}
+use Rattle.event_handlers.proofs.exchanges.Finishes.{keepable_finished, whole_finished, taken_open, taken_none, taken_finished_none, finished_offers, finished_inbound, closed_by_offers, closed_by_inbound}
+use Rattle.event_handlers.proofs.exchanges.Idles.{idle_hears, closed_by_none}
+use Rattle.event_handlers.proofs.exchanges.hearing.hear.Goals as goal
+
+-- ---- of an idle one
+
+pub returns-in_default-clause-brings : goal.returns-in_default-clause-brings
+returns-in_default-clause-brings c setup keeps =
+    let one = idle_for c.args.k c.args.session.now.upstreams.live c.served_by.result c.requires.opened c.served_by.ensures c.in_default.is in
+    subst (λ (v : View). Brings setup c.args.session.now balanced c.args.out.now (Happened (Up c.args.k c.args.octets.now)) v balanced c.hear_idle.new.out) (sym c.in_ok-hear_idle.ensures.kept)
+    (subst (Brings setup c.args.session.now balanced c.args.out.now (Happened (Up c.args.k c.args.octets.now)) (closed_by c.args.octets.now c.args.k c.args.session.now) balanced) (sym c.in_ok-hear_idle.ensures.puts)
+    (idle_hears setup c.args.session.now c.requires.rest c.args.k one.0 one.1 one.2 c.args.out.now c.args.octets.now c.requires.short))
+
+pub returns-in_default-clause-none_cut : goal.returns-in_default-clause-none_cut
+returns-in_default-clause-none_cut c =
+    subst (λ (o : theory_responses.State). NoneCut o) (sym (ap (λ (v : View). v.offers) c.in_ok-hear_idle.ensures.kept ∙ closed_by_offers c.args.octets.now c.args.k c.args.session.now)) c.requires.rest.none_cut
+
+pub returns-in_default-clause-none_but : goal.returns-in_default-clause-none_but
+returns-in_default-clause-none_but c =
+    if_any (find number_of c.args.k c.args.session.now.upstreams.live) c.hear_idle.new.session
+    (subst NoneDone (sym c.in_ok-hear_idle.ensures.kept) (closed_by_none c.args.octets.now c.args.k c.args.session.now c.requires.rest.none_done))
+
+pub returns-in_default-clause-numbered : goal.returns-in_default-clause-numbered
+returns-in_default-clause-numbered c id there =
+    c.requires.numbered id (sym (ap (λ (i : Inbound). has i.rows id) (ap (λ (v : View). v.inbound) c.in_ok-hear_idle.ensures.kept ∙ closed_by_inbound c.args.octets.now c.args.k c.args.session.now)) ∙ there)
+
+-- ---- of one that works for a stream
+
+pub take_octets-requires-clause-of : goal.take_octets-requires-clause-of
+take_octets-requires-clause-of c =
+    if_found c.args.k c.in-Some.stream c.args.session.now.upstreams.live (found_for c.args.k c.in-Some.stream c.args.session.now.upstreams.live c.served_by.result c.requires.opened c.served_by.ensures c.in-Some.is)
+
+pub take_octets-requires-clause-kept : goal.take_octets-requires-clause-kept
+take_octets-requires-clause-kept c =
+    let r = c.requires.reached in
+    let it = found_for c.args.k c.in-Some.stream c.args.session.now.upstreams.live c.served_by.result c.requires.opened c.served_by.ensures c.in-Some.is in
+    stream_kept c.args.session.now c.requires.rest r.0 r.2.0 r.2.1 r.2.2 c.args.k c.in-Some.stream it
+
+pub abandon-requires-clause-live : goal.abandon-requires-clause-live
+abandon-requires-clause-live c =
+    let r = c.requires.reached in
+    let it = found_for c.args.k c.in-Some.stream c.args.session.now.upstreams.live c.served_by.result c.requires.opened c.served_by.ensures c.in-Some.is in
+    ap (λ (v : View). is_active v.inbound.rows c.in-Some.stream) c.in_ok-take_octets.ensures.is ∙ stream_active c.args.session.now c.requires.rest r.0 r.2.0 r.2.1 r.2.2 c.args.k c.in-Some.stream it
+
+pub abandon-requires-clause-numbered : goal.abandon-requires-clause-numbered
+abandon-requires-clause-numbered c =
+    let r = c.requires.reached in
+    let it = found_for c.args.k c.in-Some.stream c.args.session.now.upstreams.live c.served_by.result c.requires.opened c.served_by.ensures c.in-Some.is in
+    stream_numbered c.args.session.now c.requires.rest r.0 r.2.0 r.2.1 r.2.2 c.args.k c.in-Some.stream it c.requires.numbered
+
+-- its answer goes on
+pub returns-in-GoesOn-clause-brings : goal.returns-in-GoesOn-clause-brings
+returns-in-GoesOn-clause-brings c setup keeps =
+    let it = found_for c.args.k c.in-Some.stream c.args.session.now.upstreams.live c.served_by.result c.requires.opened c.served_by.ensures c.in-Some.is in
+    goes_on c.args.session.now c.requires.rest c.args.k c.args.out.now setup c.in-Some.stream it c.args.octets.now c.requires.short c.take_octets.new.session (subst (λ (h : Heard). AreTaken c.args.session.now c.args.k c.args.octets.now h c.take_octets.new.session) c.in-GoesOn.is c.in_ok-take_octets.ensures)
+
+pub returns-in-GoesOn-clause-none_cut : goal.returns-in-GoesOn-clause-none_cut
+returns-in-GoesOn-clause-none_cut c =
+    taken_none_cut c.args.session.now c.args.k c.args.octets.now c.in_ok-take_octets.field-0 c.take_octets.new.session c.requires.rest.none_cut c.in_ok-take_octets.ensures
+
+pub returns-in-GoesOn-clause-none_but : goal.returns-in-GoesOn-clause-none_but
+returns-in-GoesOn-clause-none_but c =
+    if_any (find number_of c.args.k c.args.session.now.upstreams.live) c.take_octets.new.session
+    (taken_none c.args.session.now c.args.k c.args.octets.now c.in_ok-take_octets.field-0 c.take_octets.new.session c.requires.rest.none_done c.in_ok-take_octets.ensures)
+
+-- it is whole
+pub finish-requires : goal.finish-requires
+finish-requires c = record { opened = taken_open c.args.session.now c.args.k c.args.octets.now c.in_ok-take_octets.field-0 c.take_octets.new.session c.in_ok-take_octets.ensures }
+
+pub finish-requires-in-Finished : goal.finish-requires-in-Finished
+finish-requires-in-Finished c = record { opened = taken_open c.args.session.now c.args.k c.args.octets.now c.in_ok-take_octets.field-0 c.take_octets.new.session c.in_ok-take_octets.ensures }
+
+pub returns-in_ok-finish-in-Keepable-clause-brings : goal.returns-in_ok-finish-in-Keepable-clause-brings
+returns-in_ok-finish-in-Keepable-clause-brings c setup keeps =
+    let it = found_for c.args.k c.in-Some.stream c.args.session.now.upstreams.live c.served_by.result c.requires.opened c.served_by.ensures c.in-Some.is in
+    keepable_finished c.args.session.now c.requires.rest c.args.k c.args.out.now setup c.in-Some.stream it c.take_octets.new.session c.finish.new.session c.finish.new.out c.args.octets.now c.requires.short (heard_of c.verdict_for-verdict.result) c.args.keep
+    (subst (λ (h : Heard). AreTaken c.args.session.now c.args.k c.args.octets.now h c.take_octets.new.session) c.in-Keepable.is c.in_ok-take_octets.ensures) c.verdict_for-verdict.ensures keeps c.in_ok-finish-in-Keepable.ensures.kept c.in_ok-finish-in-Keepable.ensures.puts
+
+pub returns-in_ok-finish-in-Keepable-clause-none_cut : goal.returns-in_ok-finish-in-Keepable-clause-none_cut
+returns-in_ok-finish-in-Keepable-clause-none_cut c =
+    subst (λ (o : theory_responses.State). NoneCut o) (sym (finished_offers c.args.k (heard_of c.verdict_for-verdict.result) c.take_octets.new.session c.finish.new.session c.in_ok-finish-in-Keepable.ensures.kept))
+    (taken_none_cut c.args.session.now c.args.k c.args.octets.now c.in_ok-take_octets.field-0 c.take_octets.new.session c.requires.rest.none_cut c.in_ok-take_octets.ensures)
+
+pub returns-in_ok-finish-in-Keepable-clause-none_but : goal.returns-in_ok-finish-in-Keepable-clause-none_but
+returns-in_ok-finish-in-Keepable-clause-none_but c =
+    if_any (find number_of c.args.k c.args.session.now.upstreams.live) c.finish.new.session
+    (taken_finished_none c.args.session.now c.args.k c.args.octets.now c.in_ok-take_octets.field-0 (heard_of c.verdict_for-verdict.result) c.take_octets.new.session c.finish.new.session c.requires.rest.none_done c.in_ok-take_octets.ensures c.in_ok-finish-in-Keepable.ensures.kept)
+
+pub returns-in_ok-finish-in-Keepable-clause-numbered : goal.returns-in_ok-finish-in-Keepable-clause-numbered
+returns-in_ok-finish-in-Keepable-clause-numbered c id there =
+    c.requires.numbered id (sym (ap (λ (i : Inbound). has i.rows id) (finished_inbound c.args.k (heard_of c.verdict_for-verdict.result) c.take_octets.new.session c.finish.new.session c.in_ok-finish-in-Keepable.ensures.kept ∙ ap (λ (v : View). v.inbound) c.in_ok-take_octets.ensures.is)) ∙ there)
+
+-- and the connection isn't kept
+pub returns-in_ok-finish-in-Finished-clause-brings : goal.returns-in_ok-finish-in-Finished-clause-brings
+returns-in_ok-finish-in-Finished-clause-brings c setup keeps =
+    let it = found_for c.args.k c.in-Some.stream c.args.session.now.upstreams.live c.served_by.result c.requires.opened c.served_by.ensures c.in-Some.is in
+    whole_finished c.args.session.now c.requires.rest c.args.k c.args.out.now setup c.in-Some.stream it c.take_octets.new.session c.finish-in-Finished.new.session c.finish-in-Finished.new.out c.args.octets.now c.requires.short
+    (subst (λ (h : Heard). AreTaken c.args.session.now c.args.k c.args.octets.now h c.take_octets.new.session) c.in-Finished.is c.in_ok-take_octets.ensures) c.in_ok-finish-in-Finished.ensures.kept c.in_ok-finish-in-Finished.ensures.puts
+
+pub returns-in_ok-finish-in-Finished-clause-none_cut : goal.returns-in_ok-finish-in-Finished-clause-none_cut
+returns-in_ok-finish-in-Finished-clause-none_cut c =
+    subst (λ (o : theory_responses.State). NoneCut o) (sym (finished_offers c.args.k Finished c.take_octets.new.session c.finish-in-Finished.new.session c.in_ok-finish-in-Finished.ensures.kept))
+    (taken_none_cut c.args.session.now c.args.k c.args.octets.now c.in_ok-take_octets.field-0 c.take_octets.new.session c.requires.rest.none_cut c.in_ok-take_octets.ensures)
+
+pub returns-in_ok-finish-in-Finished-clause-none_but : goal.returns-in_ok-finish-in-Finished-clause-none_but
+returns-in_ok-finish-in-Finished-clause-none_but c =
+    if_any (find number_of c.args.k c.args.session.now.upstreams.live) c.finish-in-Finished.new.session
+    (taken_finished_none c.args.session.now c.args.k c.args.octets.now c.in_ok-take_octets.field-0 Finished c.take_octets.new.session c.finish-in-Finished.new.session c.requires.rest.none_done c.in_ok-take_octets.ensures c.in_ok-finish-in-Finished.ensures.kept)
+
+pub returns-in_ok-finish-in-Finished-clause-numbered : goal.returns-in_ok-finish-in-Finished-clause-numbered
+returns-in_ok-finish-in-Finished-clause-numbered c id there =
+    c.requires.numbered id (sym (ap (λ (i : Inbound). has i.rows id) (finished_inbound c.args.k Finished c.take_octets.new.session c.finish-in-Finished.new.session c.in_ok-finish-in-Finished.ensures.kept ∙ ap (λ (v : View). v.inbound) c.in_ok-take_octets.ensures.is)) ∙ there)
+
+-- it fails
+pub returns-in-Failed-clause-brings : goal.returns-in-Failed-clause-brings
+returns-in-Failed-clause-brings c =
+    let r = c.requires.reached in
+    let it = found_for c.args.k c.in-Some.stream c.args.session.now.upstreams.live c.served_by.result c.requires.opened c.served_by.ensures c.in-Some.is in
+    let few : c.in-Some.stream < 2147483648 = stream_numbered c.args.session.now c.requires.rest r.0 r.2.0 r.2.1 r.2.2 c.args.k c.in-Some.stream it c.requires.numbered in
+    if_ok c.abandon.result
+    (λ back given setup keeps. fails c.args.session.now c.requires.rest c.args.k c.args.out.now setup c.in-Some.stream it c.args.octets.now c.requires.short c.take_octets.new.session c.abandon.new.session c.abandon.new.out back (subst (λ (h : Heard). AreTaken c.args.session.now c.args.k c.args.octets.now h c.take_octets.new.session) c.in-Failed.is c.in_ok-take_octets.ensures) few given)
+    c.abandon.ensures.given
+
+pub returns-in-Failed-clause-none_cut : goal.returns-in-Failed-clause-none_cut
+returns-in-Failed-clause-none_cut c =
+    if_then c.abandon.result
+    (λ back given.
+    abandoned_none_cut c.args.k c.in-Some.stream c.take_octets.new.session c.abandon.new.session c.args.out.now c.abandon.new.out back
+    (taken_none_cut c.args.session.now c.args.k c.args.octets.now c.in_ok-take_octets.field-0 c.take_octets.new.session c.requires.rest.none_cut c.in_ok-take_octets.ensures) given)
+    c.abandon.ensures.given
+
+pub returns-in-Failed-clause-numbered : goal.returns-in-Failed-clause-numbered
+returns-in-Failed-clause-numbered c =
+    if_then c.abandon.result
+    (λ back given.
+    abandoned_numbered c.args.k c.in-Some.stream c.take_octets.new.session c.abandon.new.session c.args.out.now c.abandon.new.out back
+    (λ id there. c.requires.numbered id (sym (ap (λ (v : View). has v.inbound.rows id) c.in_ok-take_octets.ensures.is) ∙ there)) given)
+    c.abandon.ensures.given
+
+pub returns-in-Failed-clause-none_but : goal.returns-in-Failed-clause-none_but
+returns-in-Failed-clause-none_but c =
+    let it = found_for c.args.k c.in-Some.stream c.args.session.now.upstreams.live c.served_by.result c.requires.opened c.served_by.ensures c.in-Some.is in
+    if_then c.abandon.result
+    (λ back given.
+    if_stream (find number_of c.args.k c.args.session.now.upstreams.live) c.in-Some.stream c.abandon.new.session (if_found c.args.k c.in-Some.stream c.args.session.now.upstreams.live it)
+    (abandoned_none_but c.args.k c.in-Some.stream c.take_octets.new.session c.abandon.new.session c.args.out.now c.abandon.new.out back
+    (taken_none c.args.session.now c.args.k c.args.octets.now c.in_ok-take_octets.field-0 c.take_octets.new.session c.requires.rest.none_done c.in_ok-take_octets.ensures) given))
+    c.abandon.ensures.given
+
+pub returns-in-Failed-clause-over : goal.returns-in-Failed-clause-over
+returns-in-Failed-clause-over c =
+    let it = found_for c.args.k c.in-Some.stream c.args.session.now.upstreams.live c.served_by.result c.requires.opened c.served_by.ensures c.in-Some.is in
+    on_over c.abandon.result
+    (λ is setup keeps. fails_over c.args.session.now c.requires.rest c.args.k c.args.out.now setup c.in-Some.stream it c.args.octets.now c.requires.short c.take_octets.new.session c.abandon.new.out (subst (λ (h : Heard). AreTaken c.args.session.now c.args.k c.args.octets.now h c.take_octets.new.session) c.in-Failed.is c.in_ok-take_octets.ensures) is)
+    c.abandon.ensures.over

@@ -1,0 +1,148 @@
+use Rattle.std.proofs.Common.{◌≡◌, Bool, true, sym, ◌∙◌, ap, refl, subst, inl}
+use Rattle.model.specs.Setup.{Setup}
+use Rattle.model.specs.Tapes.Entry.{Came}
+use Rattle.upstream_response.specs.Waiting.{passing_in}
+use Rattle.theory_requests.specs.State.{is_streaming}
+use Rattle.frames.specs.Views.{frame_of}
+use Rattle.connection_state.specs.Inbound.{Inbound}
+use Rattle.theory_responses.specs.State as theory_responses
+use Rattle.streams.specs.Asked.{has}
+use Rattle.streams.specs.Sending.{is_served}
+use Rattle.upstream_connections.specs.Kept.{State}
+use Rattle.upstream_connections.specs.Connections.{lives}
+use Rattle.upstream_connections.specs.Requests.{due_by}
+use Rattle.event_handlers.proofs.Calming.{calm_ends, calm_comes}
+use Rattle.event_handlers.specs.block_frames.Following.{goaway_frames}
+use Rattle.refinement.specs.View.{balanced}
+use Rattle.refinement.specs.Rest.{NoneCut, back_of}
+use Rattle.refinement.proofs.Bringing.{brings_then}
+use Rattle.event_handlers.specs.Inputs.Input.{OfFrame}
+use Rattle.event_handlers.specs.Resting.{now_of, IsServed}
+use Rattle.event_handlers.specs.block_frames.Taken.{IsOutlet}
+use Rattle.event_handlers.specs.declared.taking.ServiceTerms.{ServiceTerms}
+use Rattle.event_handlers.proofs.Closings.{about_but, but_stays}
+use Rattle.event_handlers.proofs.Following.{comes_then}
+use Rattle.event_handlers.proofs.Frames.{numbered_with, block_goes, block_ends, goaway_brings, block_brings, goaway_owed, fatal_comes}
+use Rattle.event_handlers.proofs.Results.{if_ok, on_over, stopped}
+use Rattle.event_handlers.proofs.taking.take_fragment.Goals as goal
+
+-- requests go out as the service says
+outlet_so : (setup : Setup) (service : ServiceTerms) (streams : Bool) → IsServed setup service → streams ≡ is_streaming (passing_in service.passing) → IsOutlet setup (record { at_once = streams; keep = service.keep })
+outlet_so setup service streams served is = record { at_once = is ∙ ap is_streaming served.passing.passing; keep = served.keep }
+
+pub serve-requires : goal.serve-requires
+serve-requires c =
+    let before = c.requires.reached in
+    let passed =
+    block_goes before.0 c.args.session.now c.take_block.new.session c.args.out.now c.take_block.new.out (frame_of c.args.view) c.in_ok-code.field-0 c.in-Goes.due c.in-Goes.goaway c.in-Goes.dropped c.in-Goes.is (c.in_ok-code.ensures.taken before.0 before.1.terms (outlet_so before.0 c.args.service c.is_streaming-at_once.result before.1 c.is_streaming-at_once.ensures)) in
+    let here =
+    goaway_brings before.0 c.args.session.now c.take_block.new.session c.say_goaway.new.session c.args.out.now c.take_block.new.out c.say_goaway.new.out (frame_of c.args.view) c.in-Goes.due c.in-Goes.goaway c.in-Goes.dropped passed
+    (λ due back. c.in_ok-say_goaway-in-Goes.ensures.performs before.0 due back) before.2.0 before.2.1 before.2.2 in
+    record { reached = (before.0, before.1.passing, 0, c.in-Goes.dropped, (_, here.segment.state, here.segment.leads)) }
+
+pub return_dropped-requires : goal.return_dropped-requires
+return_dropped-requires c =
+    let before = c.requires.reached in
+    let passed =
+    block_goes before.0 c.args.session.now c.take_block.new.session c.args.out.now c.take_block.new.out (frame_of c.args.view) c.in_ok-code.field-0 c.in-Goes.due c.in-Goes.goaway c.in-Goes.dropped c.in-Goes.is (c.in_ok-code.ensures.taken before.0 before.1.terms (outlet_so before.0 c.args.service c.is_streaming-at_once.result before.1 c.is_streaming-at_once.ensures)) in
+    let here =
+    block_brings before.0 c.args.session.now c.take_block.new.session c.say_goaway.new.session c.serve.new.session c.args.out.now c.take_block.new.out c.say_goaway.new.out c.serve.new.out (frame_of c.args.view) c.in-Goes.due c.in-Goes.goaway c.in-Goes.dropped passed
+    (λ due back. c.in_ok-say_goaway-in-Goes.ensures.performs before.0 due back) (λ n back. c.in_ok-serve-in-Goes.ensures.performs before.0 n back before.1.passing) before.2.0 before.2.1 before.2.2 in
+    record { reached = (before.0, (_, here.segment.state, here.segment.leads)) }
+
+pub rest_behind-requires-clause-reached : goal.rest_behind-requires-clause-reached
+rest_behind-requires-clause-reached c =
+    let before = c.requires.reached in
+    let passed =
+    block_goes before.0 c.args.session.now c.take_block.new.session c.args.out.now c.take_block.new.out (frame_of c.args.view) c.in_ok-code.field-0 c.in-Goes.due c.in-Goes.goaway c.in-Goes.dropped c.in-Goes.is (c.in_ok-code.ensures.taken before.0 before.1.terms (outlet_so before.0 c.args.service c.is_streaming-at_once.result before.1 c.is_streaming-at_once.ensures)) in
+    let here =
+    block_brings before.0 c.args.session.now c.take_block.new.session c.say_goaway.new.session c.serve.new.session c.args.out.now c.take_block.new.out c.say_goaway.new.out c.serve.new.out (frame_of c.args.view) c.in-Goes.due c.in-Goes.goaway c.in-Goes.dropped passed
+    (λ due back. c.in_ok-say_goaway-in-Goes.ensures.performs before.0 due back) (λ n back. c.in_ok-serve-in-Goes.ensures.performs before.0 n back before.1.passing) before.2.0 before.2.1 before.2.2 in
+    let returned = c.in_ok-return_dropped-in-Goes.ensures.performs in
+    let there = returned.2 before.0 _ here.segment.state here.segment.leads in
+    (before.0, returned.0, returned.1, (_, there.segment.state, there.segment.leads))
+
+pub rest_behind-requires-clause-none_cut : goal.rest_behind-requires-clause-none_cut
+rest_behind-requires-clause-none_cut c =
+    let before = c.requires.reached in
+    let passed =
+    block_goes before.0 c.args.session.now c.take_block.new.session c.args.out.now c.take_block.new.out (frame_of c.args.view) c.in_ok-code.field-0 c.in-Goes.due c.in-Goes.goaway c.in-Goes.dropped c.in-Goes.is (c.in_ok-code.ensures.taken before.0 before.1.terms (outlet_so before.0 c.args.service c.is_streaming-at_once.result before.1 c.is_streaming-at_once.ensures)) in
+    subst (λ (o : theory_responses.State). NoneCut o) (sym (c.in_ok-return_dropped-in-Goes.ensures.stays.offers ∙ c.in_ok-serve-in-Goes.ensures.stays.1 ∙ c.in_ok-say_goaway-in-Goes.ensures.stays.1)) passed.none_cut
+
+pub rest_behind-requires-clause-none_but : goal.rest_behind-requires-clause-none_but
+rest_behind-requires-clause-none_but c =
+    let before = c.requires.reached in
+    let passed =
+    block_goes before.0 c.args.session.now c.take_block.new.session c.args.out.now c.take_block.new.out (frame_of c.args.view) c.in_ok-code.field-0 c.in-Goes.due c.in-Goes.goaway c.in-Goes.dropped c.in-Goes.is (c.in_ok-code.ensures.taken before.0 before.1.terms (outlet_so before.0 c.args.service c.is_streaming-at_once.result before.1 c.is_streaming-at_once.ensures)) in
+    but_stays c.args.view.id c.serve.new.session c.return_dropped.new.session c.in_ok-return_dropped-in-Goes.ensures.stays.served (ap (λ (u : State). lives u.live) c.in_ok-return_dropped-in-Goes.ensures.stays.upstreams)
+    (c.in_ok-serve-in-Goes.ensures.none_but c.args.view.id
+    (but_stays c.args.view.id c.take_block.new.session c.say_goaway.new.session (λ stream. ap (λ (i : Inbound). is_served i.rows stream) c.in_ok-say_goaway-in-Goes.ensures.stays.0) (ap (λ (u : State). lives u.live) c.in_ok-say_goaway-in-Goes.ensures.upstreams)
+    (about_but c.args.view.id c.args.session.now c.take_block.new.session passed.about c.requires.settled.rest.none_done)))
+
+pub rest_behind-requires-clause-numbered : goal.rest_behind-requires-clause-numbered
+rest_behind-requires-clause-numbered c id kept =
+    let before = c.requires.reached in
+    let passed =
+    block_goes before.0 c.args.session.now c.take_block.new.session c.args.out.now c.take_block.new.out (frame_of c.args.view) c.in_ok-code.field-0 c.in-Goes.due c.in-Goes.goaway c.in-Goes.dropped c.in-Goes.is (c.in_ok-code.ensures.taken before.0 before.1.terms (outlet_so before.0 c.args.service c.is_streaming-at_once.result before.1 c.is_streaming-at_once.ensures)) in
+    numbered_with c.args.session.now c.take_block.new.session c.args.view.id passed.ids c.requires.of_stream c.requires.settled.numbered id
+    (subst (λ (i : Inbound). has i.rows id ≡ true) (c.in_ok-serve-in-Goes.ensures.stays.0 ∙ c.in_ok-say_goaway-in-Goes.ensures.stays.0) (sym (c.in_ok-return_dropped-in-Goes.ensures.stays.opened id) ∙ kept))
+
+pub returns-in_ok-end-in-Fatal-clause-comes : goal.returns-in_ok-end-in-Fatal-clause-comes
+returns-in_ok-end-in-Fatal-clause-comes c setup served =
+    let fatal =
+    block_ends setup c.args.session.now c.take_block.new.session c.args.out.now c.take_block.new.out (frame_of c.args.view) c.in_ok-code.field-0 c.in-Fatal.code c.in-Fatal.is (c.in_ok-code.ensures.taken setup served.terms (outlet_so setup c.args.service c.is_streaming-at_once.result served c.is_streaming-at_once.ensures)) in
+    fatal_comes setup c.args.session.now c.take_block.new.session c.args.out.now c.take_block.new.out c.end.new.out (frame_of c.args.view) fatal.note (λ s. fatal.next) c.in-Fatal.code c.requires.settled.rest fatal.nothing_put fatal.upstreams fatal.rows fatal.untaken fatal.fault fatal.fatal
+    (λ run s kept d. c.in_ok-end-in-Fatal.ensures setup run s kept d)
+
+pub returns-in_ok-return_dropped-in-Goes-clause-comes : goal.returns-in_ok-return_dropped-in-Goes-clause-comes
+returns-in_ok-return_dropped-in-Goes-clause-comes c =
+    if_ok c.rest_behind.result
+    (λ went follows setup served.
+    let passed =
+    block_goes setup c.args.session.now c.take_block.new.session c.args.out.now c.take_block.new.out (frame_of c.args.view) c.in_ok-code.field-0 c.in-Goes.due c.in-Goes.goaway c.in-Goes.dropped c.in-Goes.is (c.in_ok-code.ensures.taken setup served.terms (outlet_so setup c.args.service c.is_streaming-at_once.result served c.is_streaming-at_once.ensures)) in
+    let returned = c.in_ok-return_dropped-in-Goes.ensures.performs in
+    comes_then setup c.args.session.now c.return_dropped.new.session balanced (back_of returned.0) balanced c.args.out.now c.return_dropped.new.out c.rest_behind.new.out (Came (record { frame = frame_of c.args.view; note = passed.note })) (OfFrame (frame_of c.args.view)) (now_of went c.rest_behind.new.session) refl
+    (brings_then setup c.args.session.now c.serve.new.session c.return_dropped.new.session balanced (back_of c.in-Goes.dropped) (back_of returned.0) c.args.out.now c.serve.new.out c.return_dropped.new.out (Came (record { frame = frame_of c.args.view; note = passed.note }))
+    (block_brings setup c.args.session.now c.take_block.new.session c.say_goaway.new.session c.serve.new.session c.args.out.now c.take_block.new.out c.say_goaway.new.out c.serve.new.out (frame_of c.args.view) c.in-Goes.due c.in-Goes.goaway c.in-Goes.dropped passed
+    (λ due back. c.in_ok-say_goaway-in-Goes.ensures.performs setup due back) (λ n back. c.in_ok-serve-in-Goes.ensures.performs setup n back served.passing))
+    (returned.2 setup)) (follows returned.0 returned.1 setup)) c.rest_behind.ensures.follows
+
+-- ---- the connection ends in place of a frame
+
+pub returns-in_err-code-clause-over : goal.returns-in_err-code-clause-over
+returns-in_err-code-clause-over c =
+    stopped c.from_residual.result c.in_err-code.field-0.0 c.from_residual.ensures.1
+    (λ comes setup served. comes setup served.terms (outlet_so setup c.args.service c.is_streaming-at_once.result served c.is_streaming-at_once.ensures)) c.in_err-code.ensures.over
+
+pub returns-in_err-say_goaway-in-Goes-clause-over : goal.returns-in_err-say_goaway-in-Goes-clause-over
+returns-in_err-say_goaway-in-Goes-clause-over c =
+    stopped c.from_residual-in_err-say_goaway-in-Goes.result c.in_err-say_goaway-in-Goes.field-0.0 c.from_residual-in_err-say_goaway-in-Goes.ensures.1
+    (λ ends setup served.
+    let passed =
+    block_goes setup c.args.session.now c.take_block.new.session c.args.out.now c.take_block.new.out (frame_of c.args.view) c.in_ok-code.field-0 c.in-Goes.due c.in-Goes.goaway c.in-Goes.dropped c.in-Goes.is (c.in_ok-code.ensures.taken setup served.terms (outlet_so setup c.args.service c.is_streaming-at_once.result served c.is_streaming-at_once.ensures)) in
+    calm_comes setup c.args.session.now c.take_block.new.session balanced (record balanced { owed = goaway_frames c.in-Goes.goaway; due = due_by c.in-Goes.due; shared = c.in-Goes.dropped }) c.args.out.now c.take_block.new.out c.say_goaway.new.out (Came (record { frame = frame_of c.args.view; note = passed.note })) (OfFrame (frame_of c.args.view)) refl
+    passed.brings
+    (calm_ends setup c.take_block.new.session (record balanced { owed = goaway_frames c.in-Goes.goaway; due = due_by c.in-Goes.due; shared = c.in-Goes.dropped }) (inl (goaway_owed c.in-Goes.goaway ends.0)) (passed.alone ends.0 ends.1.0) c.take_block.new.out c.say_goaway.new.out ends.1)) c.in_err-say_goaway-in-Goes.ensures.over
+
+pub returns-in_err-return_dropped-in-Goes-clause-over : goal.returns-in_err-return_dropped-in-Goes-clause-over
+returns-in_err-return_dropped-in-Goes-clause-over c =
+    stopped c.from_residual-in_err-return_dropped-in-Goes.result c.in_err-return_dropped-in-Goes.field-0.0 c.from_residual-in_err-return_dropped-in-Goes.ensures.1
+    (λ ends setup served.
+    let passed =
+    block_goes setup c.args.session.now c.take_block.new.session c.args.out.now c.take_block.new.out (frame_of c.args.view) c.in_ok-code.field-0 c.in-Goes.due c.in-Goes.goaway c.in-Goes.dropped c.in-Goes.is (c.in_ok-code.ensures.taken setup served.terms (outlet_so setup c.args.service c.is_streaming-at_once.result served c.is_streaming-at_once.ensures)) in
+    calm_comes setup c.args.session.now c.serve.new.session balanced (back_of c.in-Goes.dropped) c.args.out.now c.serve.new.out c.return_dropped.new.out (Came (record { frame = frame_of c.args.view; note = passed.note })) (OfFrame (frame_of c.args.view)) refl
+    (block_brings setup c.args.session.now c.take_block.new.session c.say_goaway.new.session c.serve.new.session c.args.out.now c.take_block.new.out c.say_goaway.new.out c.serve.new.out (frame_of c.args.view) c.in-Goes.due c.in-Goes.goaway c.in-Goes.dropped passed
+    (λ due back. c.in_ok-say_goaway-in-Goes.ensures.performs setup due back) (λ n back. c.in_ok-serve-in-Goes.ensures.performs setup n back served.passing)) (ends setup)) c.in_err-return_dropped-in-Goes.ensures.over
+
+pub returns-in_ok-return_dropped-in-Goes-clause-over : goal.returns-in_ok-return_dropped-in-Goes-clause-over
+returns-in_ok-return_dropped-in-Goes-clause-over c =
+    on_over c.rest_behind.result
+    (λ ends setup served.
+    let passed =
+    block_goes setup c.args.session.now c.take_block.new.session c.args.out.now c.take_block.new.out (frame_of c.args.view) c.in_ok-code.field-0 c.in-Goes.due c.in-Goes.goaway c.in-Goes.dropped c.in-Goes.is (c.in_ok-code.ensures.taken setup served.terms (outlet_so setup c.args.service c.is_streaming-at_once.result served c.is_streaming-at_once.ensures)) in
+    let returned = c.in_ok-return_dropped-in-Goes.ensures.performs in
+    calm_comes setup c.args.session.now c.return_dropped.new.session balanced (back_of returned.0) c.args.out.now c.return_dropped.new.out c.rest_behind.new.out (Came (record { frame = frame_of c.args.view; note = passed.note })) (OfFrame (frame_of c.args.view)) refl
+    (brings_then setup c.args.session.now c.serve.new.session c.return_dropped.new.session balanced (back_of c.in-Goes.dropped) (back_of returned.0) c.args.out.now c.serve.new.out c.return_dropped.new.out (Came (record { frame = frame_of c.args.view; note = passed.note }))
+    (block_brings setup c.args.session.now c.take_block.new.session c.say_goaway.new.session c.serve.new.session c.args.out.now c.take_block.new.out c.say_goaway.new.out c.serve.new.out (frame_of c.args.view) c.in-Goes.due c.in-Goes.goaway c.in-Goes.dropped passed
+    (λ due back. c.in_ok-say_goaway-in-Goes.ensures.performs setup due back) (λ n back. c.in_ok-serve-in-Goes.ensures.performs setup n back served.passing))
+    (returned.2 setup)) (ends returned.0 returned.1 setup)) c.rest_behind.ensures.over

@@ -1,6 +1,0 @@
-use Rattle.std.proofs.Common.{take}
-use Rattle.h2gw_parts.specs.Addresses.{AreAddresses}
-use Rattle.h2gw_parts.proofs.setting.addresses_of.Given as goal
-
-abbrev pub invariant-loop-route : goal.invariant-loop-route
-invariant-loop-route l = AreAddresses (take l.route-index l.routes) l.addresses.items

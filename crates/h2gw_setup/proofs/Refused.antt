@@ -1,0 +1,74 @@
+-- Why nothing is set up: what a step says of it, from what the steps below it say.
+use Rattle.std.proofs.Common.{◌≡◌, ◌<◌, ℕ, zero, suc, List, [], ◌∷◌, length, get_or, Option, Some, None, string_bytes, sym, subst, arith}
+use Rattle.toml.specs.Data.{Members}
+use Rattle.toml.specs.Parse.{parse_document}
+use Rattle.gateway.specs.declared.config.Config.{Config}
+use Rattle.gateway.specs.declared.config.Route.{Route}
+use Rattle.configuration.specs.Configs.{Configures, AreRoutes}
+use Rattle.command_line.specs.declared.words.Word.TheVariants as value
+use Rattle.command_line.specs.declared.words.WordsFault.{WordsFault}
+use Rattle.command_line.specs.declared.words.WordsFault.TheVariants as words
+use Rattle.command_line.specs.Gateways.{Refuses}
+use Rattle.h2gw_setup.specs.Addresses.{IsAddress, IsNoAddress}
+use Rattle.h2gw_setup.specs.Stops.{stop_of}
+use Rattle.h2gw_setup.specs.Refusals.{HasBadUpstream, LacksAddresses, LacksConfig, LacksWords, IsWordsStop}
+use Rattle.h2gw_setup.specs.declared.stops.Stop.{Stop}
+use Rattle.h2gw_setup.specs.declared.stops.Stop.TheVariants.{Words, Missing, NotANumber, NotUtf8, BadAddress, NoConfig, Config as BadConfig, Bind, Accept, Print, Memory}
+
+-- The upstream of the route at a place is no address.
+pub bad_upstream : (routes : List Route) (i : ℕ) (route : Route) → i < length routes → route ≡ get_or routes i route → IsNoAddress (string_bytes route.upstream) → HasBadUpstream routes
+bad_upstream routes i route within found lacks = (i, route, within, sym found, lacks)
+
+-- Each route that tables configure has an address.
+has_address : (tables : List Members) (routes : List Route) → AreRoutes tables routes → (i : ℕ) (route : Route) → i < length routes → IsAddress (string_bytes (get_or routes i route).upstream)
+has_address [] [] are i route within = absurd (omega (arith, within))
+has_address [] (r ∷ routes) are i route within = absurd are
+has_address (t ∷ tables) [] are i route within = absurd are
+has_address (t ∷ tables) (r ∷ routes) are zero route within = (are.0.upstream.1, are.0.upstream.2)
+has_address (t ∷ tables) (r ∷ routes) are (suc i) route within = has_address tables routes are.1 i route (omega (arith, within))
+
+configured : (found : Option Members) (config : Config) → Configures found config → HasBadUpstream config.routes.items → ⊥
+configured None config is bad = absurd is
+configured (Some entries) config is (i, route, within, found, lacks) =
+    let address = has_address is.tables config.routes.items is.routes i route within in
+    lacks address.0 (subst (λ (r : Route). IsAddress (string_bytes r.upstream)) found address).1
+
+-- Routes that are configured have addresses, unless memory runs out.
+pub config_stop : (text : List ℕ) (config : Config) (stop : Stop) → Configures (parse_document text) config → LacksAddresses config.routes.items stop → LacksConfig text stop
+config_stop text config (Words error) is lacks = absurd lacks
+config_stop text config (Missing word) is lacks = absurd lacks
+config_stop text config (NotANumber word) is lacks = absurd lacks
+config_stop text config NotUtf8 is lacks = absurd lacks
+config_stop text config BadAddress is lacks = absurd lacks
+config_stop text config NoConfig is lacks = absurd lacks
+config_stop text config (BadConfig fault) is lacks = absurd (configured _ config is lacks.1)
+config_stop text config Bind is lacks = absurd lacks
+config_stop text config Accept is lacks = absurd lacks
+config_stop text config Print is lacks = absurd lacks
+config_stop text config Memory is lacks = tt
+
+refused : (arguments : List (List ℕ)) (fault : WordsFault) → Refuses arguments fault → IsWordsStop (stop_of fault)
+unfolding Refuses
+refused arguments (words.Clap error) refuses = tt
+refused arguments (words.Missing value.Config) refuses = tt
+refused arguments (words.Missing value.Listen) refuses = tt
+refused arguments (words.Missing value.Connections) refuses = tt
+refused arguments (words.Missing value.Turns) refuses = tt
+refused arguments (words.Missing value.Script) refuses = absurd refuses.1.0
+refused arguments (words.Missing value.Clients) refuses = absurd refuses.1.0
+refused arguments (words.Missing value.Idle) refuses = absurd refuses.1.0
+refused arguments (words.Missing value.Log) refuses = absurd refuses.1.0
+refused arguments (words.NotANumber value.Config) refuses = absurd refuses.1.1
+refused arguments (words.NotANumber value.Listen) refuses = absurd refuses.1.1
+refused arguments (words.NotANumber value.Connections) refuses = tt
+refused arguments (words.NotANumber value.Turns) refuses = tt
+refused arguments (words.NotANumber value.Script) refuses = absurd refuses.1.1
+refused arguments (words.NotANumber value.Clients) refuses = tt
+refused arguments (words.NotANumber value.Idle) refuses = tt
+refused arguments (words.NotANumber value.Log) refuses = absurd refuses.1.1
+refused arguments words.NotUtf8 refuses = absurd refuses
+refused arguments words.Memory refuses = tt
+
+-- The arguments are no command line.
+pub words_stop : (arguments : List (List ℕ)) (stop : Stop) → LacksWords arguments stop → IsWordsStop stop
+words_stop arguments stop (fault, same, refuses) = rw same (refused arguments fault refuses)

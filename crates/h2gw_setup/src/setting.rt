@@ -1,0 +1,150 @@
+//! What the program is set up with.
+
+ghost use Rattle.std.specs.Prelude.{◌≡◌, ◌≢◌, map, IfOk, IfErr, string_bytes};
+ghost use Rattle.std.specs.Net.Grammar.{IsSocketText};
+ghost use Rattle.toml.specs.Parse.{parse_document};
+ghost use Rattle.gateway.specs.Setups.{setup_of, IsServable};
+ghost use Rattle.configuration.specs.Configs.{Configures};
+ghost use Rattle.command_line.specs.Gateways.{Means};
+ghost use Rattle.h2gw_setup.specs.Addresses.{AreAddresses};
+ghost use Rattle.h2gw_setup.specs.Refusals.{LacksAddresses, LacksConfig, LacksSetting, LacksWords, IsWordsStop, IsSettingStop};
+ghost use Rattle.h2gw_setup.specs.Stops.{status_of};
+
+use crate::stops::Stop;
+use command_line::{GatewayWords, read_arguments, read_gateway_words};
+use configuration::{ConfigFault, Key, read_config};
+use gateway::{Config, Route};
+use std::alloc::Global;
+use std::env::Env;
+use std::fs;
+use std::io::ErrorKind;
+use std::net::SocketAddr;
+use std::rt::Files;
+
+/// What the program is set up with.
+#[derive(Drop)]
+pub struct Setting {
+    /// Where clients connect to.
+    pub listen: SocketAddr,
+    /// What each connection's gateway is set up with.
+    pub config: Config,
+    /// The addresses of the routes' upstreams, in the routes' order.
+    pub addresses: Vec<SocketAddr>,
+    /// How many connections are served.
+    pub connections: u32,
+    /// The most turns of a connection.
+    pub turns: u32,
+    /// How many connections are served at once, 1 to 1,024.
+    pub clients: u32,
+    /// For how many seconds a client may neither say nor take anything; 0 is for ever.
+    pub idle: u32,
+    /// Exchanges with servers and connections are told of on standard error.
+    pub is_logged: bool,
+}
+
+/// Reads the command line, and then the configuration that it names. The address is judged before the configuration.
+pub fn read_setting<R: Env + Files + AllocGlobal>(rt: &R) -> Result<Setting, Stop>
+    ensures servable { IfOk result (λ setting. IsServable (setup_of setting.config)) }
+    ensures addresses { IfOk result (λ setting. AreAddresses setting.config.routes.items setting.addresses.items) }
+    ensures stops { IfErr result (λ stop. IsSettingStop stop) }
+    ensures status { IfErr result (λ stop. status_of stop ≢ 2) }
+{
+    let words = read_command_line(rt)?;
+    read_setting_of(rt, &words)
+}
+
+/// Reads the configuration that the words name: all else is as they say. The address is judged
+/// before the configuration is read.
+fn read_setting_of<R: Files + AllocGlobal>(rt: &R, words: &GatewayWords) -> Result<Setting, Stop>
+    ensures servable { IfOk result (λ setting. IsServable (setup_of setting.config)) }
+    ensures addresses { IfOk result (λ setting. AreAddresses setting.config.routes.items setting.addresses.items) }
+    ensures listen { IfOk result (λ setting. IsSocketText (string_bytes words.now.listen) setting.listen) }
+    ensures counts { IfOk result (λ setting. (setting.connections ≡ words.now.connections) × (setting.turns ≡ words.now.turns)
+        × (setting.clients ≡ words.now.clients) × (setting.idle ≡ words.now.idle) × (setting.is_logged ≡ words.now.is_logged)) }
+    ensures stops { IfErr result (λ stop. LacksSetting (string_bytes words.now.listen) stop) }
+{
+    let Ok(listen) = words.listen.parse::<SocketAddr>() else {
+        return Err(Stop::BadAddress);
+    };
+    let text = match fs::read_to_string(rt, &words.config) {
+        Ok(text) => text,
+        Err(error) if error.kind() == ErrorKind::OutOfMemory => return Err(Stop::Memory),
+        Err(_) => return Err(Stop::NoConfig),
+    };
+    setting_of(rt.alloc(), words, listen, &text)
+}
+
+/// What the program is set up with, where it listens at this address and its configuration has this
+/// text: all else is as the words say.
+fn setting_of(
+    alloc: Global,
+    words: &GatewayWords,
+    listen: SocketAddr,
+    text: &str,
+) -> Result<Setting, Stop>
+    ensures configured { IfOk result (λ setting. Configures (parse_document text.now) setting.config) }
+    ensures servable { IfOk result (λ setting. IsServable (setup_of setting.config)) }
+    ensures addresses { IfOk result (λ setting. AreAddresses setting.config.routes.items setting.addresses.items) }
+    ensures listens { IfOk result (λ setting. setting.listen ≡ listen) }
+    ensures counts { IfOk result (λ setting. (setting.connections ≡ words.now.connections) × (setting.turns ≡ words.now.turns)
+        × (setting.clients ≡ words.now.clients) × (setting.idle ≡ words.now.idle) × (setting.is_logged ≡ words.now.is_logged)) }
+    ensures stops { IfErr result (λ stop. LacksConfig text.now stop) }
+{
+    let config = match read_config(alloc, text) {
+        Ok(config) => config,
+        Err(fault) => return Err(Stop::Config(fault)),
+    };
+    let addresses = addresses_of(alloc, &config.routes)?;
+    Ok(Setting {
+        listen,
+        config,
+        addresses,
+        connections: words.connections,
+        turns: words.turns,
+        clients: words.clients,
+        idle: words.idle,
+        is_logged: words.is_logged,
+    })
+}
+
+/// Reads the command line.
+fn read_command_line<R: Env + AllocGlobal>(rt: &R) -> Result<GatewayWords, Stop>
+    ensures { IfErr result (λ stop. IsWordsStop stop) }
+{
+    let arguments = read_arguments(rt)?;
+    words_of(rt.alloc(), &arguments)
+}
+
+/// What the arguments say, from the program's name on.
+fn words_of(alloc: Global, arguments: &[String]) -> Result<GatewayWords, Stop>
+    ensures words { IfOk result (λ words. Means (map string_bytes arguments.now) words) }
+    ensures stops { IfErr result (λ stop. LacksWords (map string_bytes arguments.now) stop) }
+{
+    let mut words = Vec::new(alloc);
+    for argument in arguments {
+        if words.push(argument.as_str()).is_err() {
+            return Err(Stop::Memory);
+        }
+    }
+    match read_gateway_words(alloc, &words) {
+        Ok(words) => Ok(words),
+        Err(fault) => Err(Stop::from(fault)),
+    }
+}
+
+/// The addresses of routes' upstreams, if each has one.
+fn addresses_of(alloc: Global, routes: &[Route]) -> Result<Vec<SocketAddr>, Stop>
+    ensures addresses { IfOk result (λ addresses. AreAddresses routes.now addresses.items) }
+    ensures stops { IfErr result (λ stop. LacksAddresses routes.now stop) }
+{
+    let mut addresses = Vec::new(alloc);
+    for route in routes {
+        let Ok(address) = route.upstream.parse::<SocketAddr>() else {
+            return Err(Stop::Config(ConfigFault::Bad(Key::Upstream)));
+        };
+        if addresses.push(address).is_err() {
+            return Err(Stop::Memory);
+        }
+    }
+    Ok(addresses)
+}

@@ -1,8 +1,0 @@
-use Rattle.holding.proofs.HeldInside.{parts, within_size}
-use Rattle.holding.proofs.inside.what_is_kept_is_seen.Goals as goal
-
-pub returns-clause-field : goal.returns-clause-field
-returns-clause-field c = λ field sound. parts field.split field.text.items sound
-
-pub returns-clause-table : goal.returns-clause-table
-returns-clause-table c = λ table. within_size table.fields

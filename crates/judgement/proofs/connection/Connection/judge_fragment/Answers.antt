@@ -1,6 +1,0 @@
-use Rattle.frames.specs.Views.{frame_of}
-use Rattle.judgement.proofs.Fragmenting.{frame_judged}
-use Rattle.judgement.proofs.connection.Connection.judge_fragment.Goals as goal
-
-pub returns-in-Err : goal.returns-in-Err
-returns-in-Err c = λ setup outside for crowded. frame_judged setup outside c.args.self.now (frame_of c.args.view) c.in-Err.code (c.in-Err.ensures.refused outside)

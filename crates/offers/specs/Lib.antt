@@ -1,9 +1,0 @@
-pub use Rattle.model.specs.Turns
-pub use Rattle.model.specs.Causes
-pub use Rattle.conduct.specs.Rows
-pub use Rattle.conduct.specs.Judging
-pub use Rattle.offering.specs.Outbox
-pub use Rattle.offering.specs.State
-pub mod Places
-pub mod Asked
-pub mod Changes

@@ -1,5 +1,0 @@
-use Rattle.outputs.proofs.Going.{data_content, data_ends, data_goes}
-use Rattle.outputs.proofs.laws.data_is_told.Goals as goal
-
-pub returns : goal.returns
-returns c = record { content = data_content; ends = data_ends; may_go = data_goes }

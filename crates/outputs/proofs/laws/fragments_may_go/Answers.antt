@@ -1,5 +1,0 @@
-use Rattle.outputs.proofs.Going.{fragment_goes}
-use Rattle.outputs.proofs.laws.fragments_may_go.Goals as goal
-
-pub returns : goal.returns
-returns c = fragment_goes

@@ -1,5 +1,0 @@
-use Rattle.policy.proofs.Stepping as stepping
-use Rattle.policy.proofs.log_has_headline.Goals as goal
-
-pub returns : goal.returns
-returns c = stepping.has_headline

@@ -1,0 +1,14 @@
+pub mod Additions
+pub mod Owed
+pub mod Taking
+pub mod Led
+pub mod Passing
+pub mod Hearing
+pub mod View
+pub mod Performing
+pub mod Rest
+pub mod Others
+pub mod Bringing
+pub mod Waits
+pub mod Ways
+pub mod Crowding

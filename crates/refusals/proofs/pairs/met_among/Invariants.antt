@@ -1,5 +1,0 @@
-use Rattle.refusals.specs.Driven.{IsDriven}
-use Rattle.refusals.proofs.pairs.met_among.Given as goal
-
-abbrev pub invariant-loop-event : goal.invariant-loop-event
-invariant-loop-event l = IsDriven l.gateway × IsDriven l.other

@@ -1,5 +1,0 @@
-use Rattle.relay.proofs.Resting as laws
-use Rattle.relay.proofs.rests_are_ready.Goals as goal
-
-pub returns : goal.returns
-returns c = laws.rests_are_ready

@@ -1,7 +1,0 @@
-//! Tests of the calls of `gateway` and `worlds`. There is nothing here but tests.
-#![tactic(auto)]
-
-#[cfg(test)]
-mod calls;
-#[cfg(test)]
-mod served;

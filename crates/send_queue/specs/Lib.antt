@@ -1,0 +1,9 @@
+pub use Rattle.model.specs.Turns
+pub use Rattle.model.specs.Causes
+pub use Rattle.theory_errors.specs.Rows
+pub use Rattle.theory_errors.specs.Judging
+pub use Rattle.theory_responses.specs.Outbox
+pub use Rattle.theory_responses.specs.State
+pub mod Places
+pub mod Asked
+pub mod Changes

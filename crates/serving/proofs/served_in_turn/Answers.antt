@@ -1,8 +1,0 @@
-use Rattle.serving.proofs.InTurn as laws
-use Rattle.serving.proofs.served_in_turn.Goals as goal
-
-pub returns-clause-at_rest : goal.returns-clause-at_rest
-returns-clause-at_rest c = laws.comes_at_rest
-
-pub returns-clause-in_turn : goal.returns-clause-in_turn
-returns-clause-in_turn c = laws.clauses_in_turn

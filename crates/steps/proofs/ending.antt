@@ -1,4 +1,0 @@
-pub mod Closes
-pub mod Farewells
-pub mod Ends
-pub mod Shutting

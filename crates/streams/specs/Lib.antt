@@ -1,0 +1,14 @@
+pub use Rattle.model.specs.StreamStates
+pub use Rattle.model.specs.Windows
+pub use Rattle.theory_errors.specs.Rows
+pub use Rattle.theory_errors.specs.Owing
+pub use Rattle.theory_errors.specs.Tidy
+pub use Rattle.theory_errors.specs.Summary
+pub mod Views
+pub mod Steps
+pub mod Courses
+pub mod Asked
+pub mod Sending
+pub mod Records
+pub mod HeldInside
+pub use Rattle.model.specs.Limits

@@ -1,7 +1,0 @@
-use Rattle.std.proofs.Common.{◌∙◌}
-use Rattle.streams_kept.proofs.Asked.{shifts_told}
-use Rattle.streams_kept.proofs.Streams.shifts_past.Goals as goal
-
-pub returns : goal.returns
-returns c =
-    rw (← c.self.view_is) (c.shifts_past.ensures ∙ shifts_told c.self.inside.entries.items c.self.inside.records.slots c.args.first c.self.invariant)

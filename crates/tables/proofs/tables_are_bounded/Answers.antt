@@ -1,5 +1,0 @@
-use Rattle.tables.proofs.Bounded as laws
-use Rattle.tables.proofs.tables_are_bounded.Goals as goal
-
-pub returns : goal.returns
-returns c = laws.all_bounded

@@ -1,0 +1,29 @@
+pub mod Errors
+pub mod Judged
+pub mod Outlines
+pub mod Owed
+pub mod Kept
+pub mod Standings
+pub mod Alike
+pub mod Wanted
+pub mod Seen
+pub mod Rule
+pub mod Rows
+pub mod RowsKept
+pub mod Calm
+pub mod Idle
+pub mod Turns
+pub mod Book
+pub mod InTurn
+pub mod Telling
+pub mod Knowing
+pub mod Elsewhere
+pub mod Tidy
+pub mod Quiet
+pub mod Paying
+pub mod Windows
+pub mod Goaways
+pub mod Few
+pub mod Short
+mod Examples
+mod StreamExample

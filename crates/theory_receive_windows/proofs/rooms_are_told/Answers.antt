@@ -1,0 +1,9 @@
+use Rattle.theory_receive_windows.specs.State.{tape_of, state_of}
+use Rattle.theory_receive_windows.proofs.Resting as resting
+use Rattle.theory_receive_windows.proofs.rooms_are_told.Goals as goal
+
+pub returns-clause-shared : goal.returns-clause-shared
+returns-clause-shared c passing moves all = resting.shared_room passing (tape_of moves) (state_of passing moves) (resting.receiving passing moves all)
+
+pub returns-clause-own : goal.returns-clause-own
+returns-clause-own c passing moves id all on = resting.own_room passing (tape_of moves) (state_of passing moves) id (resting.receiving passing moves all) on

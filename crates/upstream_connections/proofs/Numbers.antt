@@ -1,0 +1,90 @@
+-- Numbers that rise: without one, with one among them, and the first that passes a test.
+use Rattle.std.proofs.Common.{◌≡◌, ℕ, ◌<◌, ◌≤◌, ◌==◌, nat_lt, if◌then◌else◌, Bool, true, false, not, List, [], ◌∷◌, ◌++◌, length, get_or, drop, Some, None, refl, sym, ap, ◌∙◌, drop-cons, arith}
+use Rattle.std.specs.Prelude.{Option, zero, suc, reverse}
+use Rattle.std.specs.List.{insert}
+use Rattle.std.proofs.lemmas.Bool.{lt-ltb, le-ltb}
+use Rattle.std.proofs.lemmas.List.{reverse-append, append-nil}
+use Rattle.std.proofs.lemmas.List.Elements.{filter-append}
+use Rattle.upstream_connections.specs.Connections.{others, among}
+
+-- ---- without one
+
+-- it goes from them however they stand
+pub others_turned : (k : ℕ) (xs : List ℕ) → others k (reverse xs) ≡ reverse (others k xs)
+others_turned k [] = refl
+others_turned k (x ∷ xs) =
+    ap (others k) (reverse-append (x ∷ []) xs)
+    ∙ filter-append (λ j. not (j == k)) (reverse xs) (x ∷ [])
+    ∙ ap (λ ys. ys ++ others k (x ∷ [])) (others_turned k xs)
+    ∙ by (not (x == k))
+  where
+    by : (b : Bool) → reverse (others k xs) ++ (if b then x ∷ [] else []) ≡ reverse (if b then x ∷ others k xs else others k xs)
+    by true = sym (reverse-append (x ∷ []) (others k xs))
+    by false = append-nil (reverse (others k xs))
+
+-- ---- with one among them
+
+-- one that is greater stays behind it
+pub among_before : (k y : ℕ) (xs : List ℕ) → k < y → among k (xs ++ y ∷ []) ≡ among k xs ++ y ∷ []
+among_before k y [] lt = ap (λ b. if b then y ∷ k ∷ [] else k ∷ y ∷ []) (le-ltb y k (omega (arith, lt)))
+among_before k y (x ∷ xs) lt = by (nat_lt x k) (among_before k y xs lt)
+  where
+    by : (b : Bool) → among k (xs ++ y ∷ []) ≡ among k xs ++ y ∷ [] → (if b then x ∷ among k (xs ++ y ∷ []) else k ∷ x ∷ xs ++ y ∷ []) ≡ (if b then x ∷ among k xs else k ∷ x ∷ xs) ++ y ∷ []
+    by true rest = ap (λ ys. x ∷ ys) rest
+    by false rest = refl
+
+-- Each is less than this.
+abbrev pub AreUnder : ℕ → List ℕ → Type 0
+AreUnder k [] = Unit {0}
+AreUnder k (x ∷ xs) = (x < k) × AreUnder k xs
+
+pub under_more : (k y : ℕ) (xs : List ℕ) → y < k → AreUnder k xs → AreUnder k (xs ++ y ∷ [])
+under_more k y [] lt under = (lt, tt)
+under_more k y (x ∷ xs) lt under = (under.0, under_more k y xs lt under.1)
+
+-- one that is the greatest stands last
+pub among_last : (k : ℕ) (xs : List ℕ) → AreUnder k xs → among k xs ≡ xs ++ k ∷ []
+among_last k [] under = refl
+among_last k (x ∷ xs) under =
+    ap (λ b. if b then x ∷ among k xs else k ∷ x ∷ xs) (lt-ltb x k under.0)
+    ∙ ap (λ ys. x ∷ ys) (among_last k xs under.1)
+
+-- it stands behind those that are less
+pub inserted : (k : ℕ) (xs : List ℕ) (place : ℕ) → place ≤ length xs → ((i : ℕ) → i < place → get_or xs i 0 < k) → (place < length xs → k ≤ get_or xs place 0) → insert xs place k ≡ among k xs
+inserted k [] zero le before behind = refl
+inserted k [] (suc place) le before behind = absurd (omega (arith, le))
+inserted k (x ∷ xs) zero le before behind = ap (λ b. if b then x ∷ among k xs else k ∷ x ∷ xs) (sym (le-ltb x k (behind (omega arith))))
+inserted k (x ∷ xs) (suc place) le before behind =
+    ap (λ ys. x ∷ ys) (inserted k xs place (omega (arith, le)) (λ i lt. before (suc i) (omega (arith, lt))) (λ lt. behind (omega (arith, lt))))
+    ∙ ap (λ b. if b then x ∷ among k xs else k ∷ x ∷ xs) (sym (lt-ltb x k (before 0 (omega arith))))
+
+-- ---- the first that passes a test
+
+abbrev pub first_of : (ℕ → Bool) → List ℕ → Option ℕ
+first_of p [] = None
+first_of p (x ∷ xs) = if p x then Some x else first_of p xs
+
+abbrev pub or_else : Option ℕ → Option ℕ → Option ℕ
+or_else None o = o
+or_else (Some x) o = Some x
+
+-- the last only where none before it does
+pub first_last : (p : ℕ → Bool) (xs : List ℕ) (y : ℕ) → first_of p (xs ++ y ∷ []) ≡ or_else (first_of p xs) (if p y then Some y else None)
+first_last p [] y = refl
+first_last p (x ∷ xs) y = by (p x) (first_last p xs y)
+  where
+    by : (b : Bool) → first_of p (xs ++ y ∷ []) ≡ or_else (first_of p xs) (if p y then Some y else None) → (if b then Some x else first_of p (xs ++ y ∷ [])) ≡ or_else (if b then Some x else first_of p xs) (if p y then Some y else None)
+    by true rest = refl
+    by false rest = rest
+
+-- of those from a place on
+module _ (p : ℕ → Bool) (xs : List ℕ) (i : ℕ) (lt : i < length xs) where
+  first : first_of p (drop i xs) ≡ (if p (get_or xs i 0) then Some (get_or xs i 0) else first_of p (drop (suc i) xs))
+  first = ap (first_of p) (drop-cons xs i 0 lt)
+
+  -- it is the one there, or else one behind
+  pub first_here : p (get_or xs i 0) ≡ true → first_of p (drop i xs) ≡ Some (get_or xs i 0)
+  first_here own = first ∙ ap (λ b. if b then Some (get_or xs i 0) else first_of p (drop (suc i) xs)) own
+
+  pub first_behind : p (get_or xs i 0) ≡ false → first_of p (drop i xs) ≡ first_of p (drop (suc i) xs)
+  first_behind other = first ∙ ap (λ b. if b then Some (get_or xs i 0) else first_of p (drop (suc i) xs)) other

@@ -1,0 +1,44 @@
+-- How many octets lie in this crate's types. Each count takes the struct apart by the names of all its fields: what lies in one field more has to be
+-- counted here.
+use Rattle.std.specs.Prelude.{ℕ, ◌+◌, List, [], ◌∷◌, reverse}
+use Rattle.h1_writer.specs.Sending.{held_back}
+use Rattle.theory_requests.specs.Held.{held_of_all}
+use Rattle.request_buffer.specs.HeldInside as requests
+use Rattle.upstream_response.specs.HeldInside.{octets_of}
+use Rattle.upstream_connections.specs.Connections.{Connection}
+use Rattle.upstream_connections.specs.declared.connection.UpstreamConnection.TheInside.{Inside as ConnectionInside}
+use Rattle.upstream_connections.specs.declared.held.Held.TheInside.{Inside as HeldInside}
+use Rattle.upstream_connections.specs.declared.held.Way.{Way}
+use Rattle.upstream_connections.specs.declared.held.Way.TheVariants as way
+use Rattle.upstream_connections.specs.declared.upstreams.Upstreams.TheInside.{Inside as UpstreamsInside}
+
+-- the octets of the answers of connections, as they are seen
+abbrev pub answers_in : List Connection → ℕ
+answers_in [] = 0
+answers_in (c ∷ cs) = octets_of c.answer + answers_in cs
+
+-- those that lie in a connection: its answer
+abbrev pub in_connection : ConnectionInside → ℕ
+in_connection = λ record {
+  number = number;
+  route = route;
+  stream = stream;
+  progress = progress;
+  answer = answer;
+  put_out = put_out;
+  taken = taken;
+}. octets_of answer
+
+-- in a request that isn't whole: one that waits, or the octet that is held back of one that goes out
+abbrev pub in_way : Way → ℕ
+in_way (way.Waiting request) = requests.octets_of request
+in_way (way.Going number going) = held_back going
+in_way way.Dropped = 0
+
+abbrev pub in_held : HeldInside → ℕ
+in_held = λ record { id = id; way = way }. in_way way
+
+-- in all of them: the requests and the connections, the newest first
+abbrev pub in_upstreams : UpstreamsInside → ℕ
+in_upstreams = λ record { alloc = alloc; held = held; connections = connections; idle = idle; count = count }.
+    held_of_all (reverse held.items) + answers_in (reverse connections.items)

@@ -1,0 +1,10 @@
+pub use Rattle.theory_requests.specs.Lines
+pub use Rattle.theory_requests.specs.State
+pub use Rattle.theory_requests.specs.Held
+pub mod Ways
+pub mod Progress
+pub mod Requests
+pub mod Connections
+pub mod Kept
+pub mod Places
+pub mod HeldInside

@@ -1,0 +1,143 @@
+//! Open connections, the oldest first, found by their numbers.
+
+ghost use Rattle.std.specs.Prelude.{◌≡◌, suc, ◌+◌, ◌<◌, ◌≤◌, ◌^◌, map, reverse, Some, None, MatchOption, IfSome, IfNone};
+ghost use Rattle.theory_requests.specs.Lines.{find, without, least_idle};
+ghost use Rattle.upstream_connections.specs.Connections.{number_of, works_for, lives, marked_at, given_at, answer_at};
+ghost use Rattle.upstream_connections.specs.Connections.{put_at, taken_at, is_idle_one, is_idle_one_of, idle_numbers};
+ghost use Rattle.upstream_connections.specs.Connections.{AreRising, IsOpenAt, IsOpenNowhere};
+ghost use Rattle.upstream_connections.specs.Progress.{answer_of};
+
+use crate::connection::UpstreamConnection;
+use crate::progress::Progress;
+use upstream_response::Answer;
+
+/// The place of the connection with this number.
+pub fn place_of(connections: &[UpstreamConnection], k: u32) -> Option<usize>
+    requires { AreRising connections.now }
+    ensures found { IfSome result (IsOpenAt connections.now k) }
+    ensures absent { IfNone result (IsOpenNowhere connections.now k) }
+{
+    connections
+        .binary_search_by_key(&k, |connection| connection.number())
+        .ok()
+}
+
+/// The connection with this number.
+pub fn find(connections: &[UpstreamConnection], k: u32) -> Option<&UpstreamConnection>
+    requires { AreRising connections.now }
+    ensures { MatchOption result (find number_of k (reverse connections.now) ≡ None) (λ connection. find number_of k (reverse connections.now)
+        ≡ Some connection.now) }
+{
+    match place_of(connections, k) {
+        Some(place) => Some(&connections[place]),
+        None => None,
+    }
+}
+
+/// The newest connection that works for this stream.
+pub fn of_stream(connections: &[UpstreamConnection], id: u32) -> Option<&UpstreamConnection>
+    ensures { MatchOption result (find works_for (suc id) (reverse connections.now) ≡ None) (λ connection. find works_for (suc id) (reverse connections.now)
+        ≡ Some connection.now) }
+{
+    for connection in connections.iter().rev() {
+        if connection.works_for(id) {
+            return Some(connection);
+        }
+    }
+    None
+}
+
+/// Whether the connection with this number is open, idle and of the route at this place.
+fn is_idle_of(connections: &[UpstreamConnection], k: u32, route: u32) -> bool
+    requires { AreRising connections.now }
+    ensures { result ≡ is_idle_one_of route (find number_of k (reverse connections.now)) }
+{
+    match find(connections, k) {
+        Some(connection) => connection.is_idle_of(route),
+        None => false,
+    }
+}
+
+/// The idle connection of the route at this place that was opened first, if there is one, where
+/// those that are idle have these numbers.
+pub fn least_idle(connections: &[UpstreamConnection], idle: &[u32], route: u32) -> Option<u32>
+    requires rising { AreRising connections.now }
+    requires are { idle.now ≡ idle_numbers connections.now }
+    ensures { result ≡ least_idle route (lives (reverse connections.now)) }
+{
+    for number in idle.iter() {
+        if is_idle_of(connections, *number, route) {
+            return Some(*number);
+        }
+    }
+    None
+}
+
+/// The response of the connection with this number is so far; whether the connection is open, and idle with it.
+pub fn mark(connections: &mut Vec<UpstreamConnection>, k: u32, progress: Progress) -> bool
+    requires { AreRising connections.old.items }
+    ensures marked { reverse connections.new.items ≡ map (marked_at k (answer_of progress)) (reverse connections.old.items) }
+    ensures idle { result ≡ is_idle_one (find number_of k (reverse connections.new.items)) }
+{
+    match place_of(connections, k) {
+        Some(place) => {
+            connections[place].mark(progress);
+            progress.is_idle()
+        }
+        None => false,
+    }
+}
+
+/// The connection with this number is given to a stream, with an answer of which nothing has come.
+pub fn give(connections: &mut Vec<UpstreamConnection>, k: u32, stream: u32, answer: Answer)
+    requires { AreRising connections.old.items }
+    ensures { reverse connections.new.items ≡ map (given_at k stream answer) (reverse connections.old.items) }
+{
+    if let Some(place) = place_of(connections, k) {
+        connections[place].give(stream, answer);
+    }
+}
+
+/// The answer of the connection with this number, for which this takes its place; or this, where there is none.
+pub fn replace_answer(connections: &mut Vec<UpstreamConnection>, k: u32, answer: Answer) -> Answer
+    requires { AreRising connections.old.items }
+    ensures is { MatchOption (find number_of k (reverse connections.old.items)) (result ≡ answer) (λ c. result ≡ c.answer) }
+    ensures rest { reverse connections.new.items ≡ map (answer_at k answer) (reverse connections.old.items) }
+{
+    match place_of(connections, k) {
+        Some(place) => connections[place].replace_answer(answer),
+        None => answer,
+    }
+}
+
+/// So many octets more were put out for the connection with this number.
+pub fn put(connections: &mut Vec<UpstreamConnection>, k: u32, count: u64)
+    requires rising { AreRising connections.old.items }
+    requires fits { IfSome (find number_of k (reverse connections.old.items)) (λ c. c.out + count < 2 ^ 64) }
+    ensures { reverse connections.new.items ≡ map (put_at k count) (reverse connections.old.items) }
+{
+    if let Some(place) = place_of(connections, k) {
+        connections[place].put(count);
+    }
+}
+
+/// The side of the connection with this number took so many more.
+pub fn take(connections: &mut Vec<UpstreamConnection>, k: u32, count: u64)
+    requires rising { AreRising connections.old.items }
+    requires fits { IfSome (find number_of k (reverse connections.old.items)) (λ c. c.took + count ≤ c.out) }
+    ensures { reverse connections.new.items ≡ map (taken_at k count) (reverse connections.old.items) }
+{
+    if let Some(place) = place_of(connections, k) {
+        connections[place].take(count);
+    }
+}
+
+/// Removes the connection with this number, if it is open.
+pub fn remove(connections: &mut Vec<UpstreamConnection>, k: u32)
+    requires { AreRising connections.old.items }
+    ensures { reverse connections.new.items ≡ without number_of k (reverse connections.old.items) }
+{
+    if let Some(place) = place_of(connections, k) {
+        connections.remove(place);
+    }
+}

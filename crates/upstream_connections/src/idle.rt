@@ -1,0 +1,38 @@
+//! The numbers of the connections that are idle, by rising number.
+
+ghost use Rattle.std.specs.Prelude.{ℕ, ◌≡◌, ◌<◌, ◌≤◌, length, slice_index_or};
+ghost use Rattle.model.specs.Limits.{most_idle};
+ghost use Rattle.upstream_connections.specs.Connections.{others, among};
+
+use crate::progress::MOST_IDLE;
+use arrayvec::ArrayVec;
+
+/// The connection with this number isn't idle, if it was.
+pub fn strike(idle: &mut ArrayVec<u32, MOST_IDLE>, k: u32)
+    ensures { idle.new.items ≡ others k idle.old.items }
+{
+    idle.retain(|number| *number != k);
+}
+
+/// The connection with this number, which isn't among them, is idle, too.
+pub fn enter(idle: &mut ArrayVec<u32, MOST_IDLE>, k: u32)
+    requires { length idle.old.items < most_idle }
+    ensures { idle.new.items ≡ among k idle.old.items }
+{
+    let place = place_for(idle.as_slice(), k);
+    idle.insert(place, k);
+}
+
+/// How many of them come before this number.
+fn place_for(idle: &[u32], k: u32) -> usize
+    ensures within { result ≤ length idle.now }
+    ensures before { (i : ℕ) → i < result → slice_index_or idle.now i 0 < k }
+    ensures behind { result < length idle.now → k ≤ slice_index_or idle.now result 0 }
+{
+    for place in 0..idle.len() {
+        if idle[place] >= k {
+            return place;
+        }
+    }
+    idle.len()
+}

@@ -1,8 +1,0 @@
-use Rattle.std.proofs.Common.{◌≡◌, suc}
-use Rattle.std.specs.Prelude.{reverse}
-use Rattle.serving.specs.Lines.{find}
-use Rattle.upstreams.specs.Connections.{works_for}
-use Rattle.upstreams.proofs.connections.of_stream.Given as goal
-
-abbrev pub invariant-loop-connection : goal.invariant-loop-connection
-invariant-loop-connection l = find works_for (suc l.id) (reverse l.connection-iterator.iter.rest.now) ≡ find works_for (suc l.id) (reverse l.connections)

@@ -1,6 +1,0 @@
-use Rattle.std.proofs.Common.{◌≡◌}
-use Rattle.upstreams.proofs.Requests.{dropped_to}
-use Rattle.upstreams.proofs.held.drop_from.Given as goal
-
-abbrev pub invariant-loop-h : goal.invariant-loop-h
-invariant-loop-h l = l.h-items ≡ dropped_to l.k l.h-index l.fn.held.items

@@ -1,6 +1,0 @@
-use Rattle.std.proofs.Common.{◌∙◌}
-use Rattle.upstreams.proofs.Requests.{holds_at}
-use Rattle.upstreams.proofs.held.holds.Goals as goal
-
-pub returns : goal.returns
-returns c = c.is_some.ensures ∙ holds_at c.args.held.now c.requires c.args.id c.place_of.result c.place_of.ensures.found c.place_of.ensures.absent

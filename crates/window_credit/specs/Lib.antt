@@ -1,0 +1,10 @@
+pub use Rattle.theory_receive_windows.specs.Marks
+pub use Rattle.theory_receive_windows.specs.State
+pub use Rattle.theory_receive_windows.specs.Policy
+pub mod Sides
+pub mod Places
+pub mod Standing
+pub mod HeldInside
+pub mod Queued
+pub mod Counts
+pub mod HeldInQueue

@@ -1,7 +1,7 @@
 //! A client that is being left.
 
-ghost use Rattle.std.specs.Prelude.{◌≡◌, ◌==◌, IfOk, IfNone, if◌then◌else◌};
-ghost use Rattle.sockets.specs.Departing.{departing, is_left, IsOver, IsOverBy};
+ghost use Rattle.std.specs.Prelude.{◌≡◌, ◌==◌, IfOk, IfSome, IfNone, if◌then◌else◌};
+ghost use Rattle.sockets.specs.Departing.{departing, is_left, IsOver, IsOverBy, MayWait, MayWaitBy};
 ghost use Rattle.sockets.specs.Sides.{lost_news, noted, Goes};
 ghost use Rattle.sockets.specs.Tokens.{number_reported};
 
@@ -44,8 +44,8 @@ impl<S: Wire> Departure<S> {
 
     /// Goes on without waiting: writes what its socket takes of what waits for it, tells it that
     /// nothing more is written once nothing waits, and reads and drops what is there, in one read.
-    /// The answer is how long it is waited for yet, where nothing is reported of it, or nothing
-    /// where it is left: its end was read behind all, or it was waited for long enough by now. An
+    /// The answer is how long it is waited for yet, where nothing is reported of it, or not at all
+    /// where more may be read; or nothing where it is left: its end was read behind all, or it was waited for long enough by now. An
     /// error is the socket's, or says that memory was refused: then it is left too.
     pub fn go_on(
         &mut self,
@@ -56,6 +56,7 @@ impl<S: Wire> Departure<S> {
     ) -> io::Result<Option<Duration>>
         ensures goes { Goes S.left S.held lost_news self.old.client self.new.client }
         ensures left { IfOk result (λ most. IfNone most (IsOver now self.new)) }
+        ensures waits { IfOk result (λ most. IfSome most (MayWait now self.new)) }
     {
         leave_on(
             alloc,
@@ -79,6 +80,7 @@ pub fn leave_on<S: Wire>(
 ) -> io::Result<Option<Duration>>
     ensures goes { Goes S.left S.held lost_news client.old client.new }
     ensures left { IfOk result (λ most. IfNone most (IsOverBy now client.new leaving.new)) }
+    ensures waits { IfOk result (λ most. IfSome most (MayWaitBy now client.new leaving.new)) }
 {
     if write_rest(client, leaving, registry, now)? {
         return Ok(None);

@@ -5,7 +5,6 @@ use Rattle.refinement.specs.View.{View}
 use Rattle.event_handlers.specs.Resting.{now_of, RestsSo}
 use Rattle.event_handlers.specs.Stopping.{IfOver, Concludes}
 use Rattle.event_handlers.specs.declared.resting.Onward.{Onward}
-use Rattle.event_handlers.specs.declared.resting.Onward.TheVariants as went
 use Rattle.event_handlers.specs.declared.halt.Halt.{Halt}
 use Rattle.event_handlers.specs.declared.halt.Halt.TheVariants as stop
 

@@ -7,7 +7,7 @@ use Rattle.theory_requests.specs.Lines.{Line, Heard, k_of, line_of, find, withou
 use Rattle.theory_requests.specs.Told.{Told}
 use Rattle.theory_requests.specs.Rule.{is_done}
 pub use Rattle.upstream_connections.proofs.Idling.{lives_same}
-use Rattle.upstream_connections.specs.Connections.{Connection, number_of, lives, marked_at, heard_at, given_at, answer_at}
+use Rattle.upstream_connections.specs.Connections.{Connection, number_of, lives, marked_at, heard_at, given_at}
 
 -- ---- what is found
 
@@ -52,15 +52,6 @@ lives_closed k (c ∷ cs) = by (c.live.k == k) (lives_closed k cs)
         → lives (if b then without number_of k cs else c ∷ without number_of k cs) ≡ (if b then without k_of k (lives cs) else c.live ∷ without k_of k (lives cs))
     by true more = more
     by false more = ap (λ ls. c.live ∷ ls) more
-
--- an answer that is lent out and put back
-pub answer_twice : (k : ℕ) (first last : Answer) (cs : List Connection) → map (answer_at k last) (map (answer_at k first) cs) ≡ map (answer_at k last) cs
-answer_twice k first last [] = refl
-answer_twice k first last (c ∷ cs) = ap (λ x. x ∷ map (answer_at k last) (map (answer_at k first) cs)) (by (c.live.k == k)) ∙ ap (λ xs. answer_at k last c ∷ xs) (answer_twice k first last cs)
-  where
-    by : (b : Bool) → record c { answer = if b then last else (if b then first else c.answer) } ≡ record c { answer = if b then last else c.answer }
-    by true = refl
-    by false = refl
 
 -- ---- which is done with
 

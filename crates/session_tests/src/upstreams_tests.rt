@@ -333,54 +333,43 @@ fn one(alloc: Global) -> Result<Upstreams, AllocError> {
     Ok(upstreams)
 }
 
-/// Lends out the answer of a connection, for which an empty one takes its place.
-fn lend_out(upstreams: &mut Upstreams, alloc: Global, k: u32) -> Answer {
-    upstreams.replace_answer(k, Answer::new(alloc, false, ResponsePassing::Streaming))
-}
-
-/// Puts the answer of a connection back.
-fn put_back(upstreams: &mut Upstreams, k: u32, answer: Answer) {
-    let _empty = upstreams.replace_answer(k, answer);
-}
-
 /// Hears octets.
 fn hear(answer: &mut Answer, octets: &[u8], outbox: &mut Outbox) -> Result<Heard, Fail> {
     Ok(answer.hear(octets, outbox)?)
 }
 
-/// Hears octets of a connection: its answer is lent out for that, and put back.
+/// Hears octets of a connection.
 fn hear_on(
     upstreams: &mut Upstreams,
-    alloc: Global,
     k: u32,
     octets: &[u8],
     outbox: &mut Outbox,
 ) -> Result<Heard, Fail> {
-    let mut answer = lend_out(upstreams, alloc, k);
-    let heard = hear(&mut answer, octets, outbox);
-    put_back(upstreams, k, answer);
-    heard
+    let Some(answer) = upstreams.answer_mut(k) else {
+        return Err(Fail::from("it isn't open"));
+    };
+    hear(answer, octets, outbox)
 }
 
 /// The head of a response comes in two pieces, and it is whole with the second.
 fn assert_goes_on(
     rt: &impl Abort,
-    alloc: Global,
     upstreams: &mut Upstreams,
     outbox: &mut Outbox,
 ) -> Result<(), Fail> {
-    let first = hear_on(upstreams, alloc, 1, b"HTTP/1.1 204 No Content\r\n", outbox)?;
+    let first = hear_on(upstreams, 1, b"HTTP/1.1 204 No Content\r\n", outbox)?;
     assert_eq!(rt; first, Heard::GoesOn);
-    let second = hear_on(upstreams, alloc, 1, b"\r\n", outbox)?;
+    let second = hear_on(upstreams, 1, b"\r\n", outbox)?;
     assert_eq!(rt; second, Heard::Keepable);
+    assert!(rt; upstreams.answer_mut(2).is_none());
     Ok(())
 }
 
 #[test]
-fn an_answer_is_lent_out_and_put_back(rt: HostRuntime) -> Result<(), Fail> {
+fn an_answer_goes_on_where_it_stands(rt: HostRuntime) -> Result<(), Fail> {
     let mut upstreams = one(rt.alloc())?;
     let mut outbox = Outbox::new(rt.alloc());
-    assert_goes_on(&rt, rt.alloc(), &mut upstreams, &mut outbox)
+    assert_goes_on(&rt, &mut upstreams, &mut outbox)
 }
 
 /// What is due of a request that waits for its end, once that came, where nothing is held of another any more.

@@ -176,9 +176,6 @@ module _ (cs : List Connection) (k : ℕ) (none : IsOpenNowhere cs k) where
   none_given stream answer = sym (none_changed (given_at k stream answer)
       (λ c apart. ap (λ b. let n : Connection = record c { live = record c.live { stream = if b then stream else c.live.stream; answer = if b then Pending else c.live.answer }; answer = if b then answer else c.answer } in n) (ne_eqb c.live.k k apart)))
 
-  pub none_answer : (answer : Answer) → reverse cs ≡ map (answer_at k answer) (reverse cs)
-  none_answer answer = sym (none_changed (answer_at k answer) (λ c apart. ap (λ b. let n : Connection = record c { answer = if b then answer else c.answer } in n) (ne_eqb c.live.k k apart)))
-
   pub none_put : (count : ℕ) → reverse cs ≡ map (put_at k count) (reverse cs)
   none_put count = sym (none_changed (put_at k count) (λ c apart. ap (λ b. let n : Connection = record c { out = if b then c.out + count else c.out } in n) (ne_eqb c.live.k k apart)))
 

@@ -8,3 +8,4 @@ pub mod Connections
 pub mod Kept
 pub mod Places
 pub mod HeldInside
+pub mod Lends

@@ -10,7 +10,6 @@ ghost use Rattle.h1_reader.specs.Standing.{Stands};
 use crate::progress::Progress;
 use std::alloc::Global;
 use std::marker::Model;
-use std::mem;
 use upstream_response::{Answer, ResponsePassing};
 
 /// An open connection to an upstream: its number, from 1 in the order in which they are opened; the
@@ -45,6 +44,9 @@ impl Model for UpstreamConnection {
 }
 
 impl UpstreamConnection {
+    ghost use Rattle.std.specs.Borrow.{sem};
+    ghost use Rattle.upstream_connections.specs.Lends.{LendsOwn};
+
     /// A connection that was just opened for a stream, by the route at this place, whose request's
     /// method is HEAD or isn't.
     pub(crate) fn opened(
@@ -162,12 +164,12 @@ impl UpstreamConnection {
         self.answer = answer;
     }
 
-    /// The answer, as far as it has come, for which this takes its place.
-    pub(crate) fn replace_answer(&mut self, answer: Answer) -> Answer
-        ensures is { result ≡ self.old.answer }
-        ensures rest { self.new ≡ record self.old { answer = answer } }
+    /// The answer, as far as it has come, to write to.
+    pub(crate) fn answer_mut(&mut self) -> &mut Answer
+        ensures* lends { sem 𝓛 (LendsOwn self.entry result) }
+        ensures is { result.now ≡ self.old.answer }
     {
-        mem::replace(&mut self.answer, answer)
+        &mut self.answer
     }
 
     /// So many octets more were put out.

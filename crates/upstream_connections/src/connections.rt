@@ -2,7 +2,7 @@
 
 ghost use Rattle.std.specs.Prelude.{◌≡◌, suc, ◌+◌, ◌<◌, ◌≤◌, ◌^◌, map, reverse, Some, None, MatchOption, IfSome, IfNone};
 ghost use Rattle.theory_requests.specs.Lines.{find, without, least_idle};
-ghost use Rattle.upstream_connections.specs.Connections.{number_of, works_for, lives, marked_at, given_at, answer_at};
+ghost use Rattle.upstream_connections.specs.Connections.{number_of, works_for, lives, marked_at, given_at};
 ghost use Rattle.upstream_connections.specs.Connections.{put_at, taken_at, is_idle_one, is_idle_one_of, idle_numbers};
 ghost use Rattle.upstream_connections.specs.Connections.{AreRising, IsOpenAt, IsOpenNowhere};
 ghost use Rattle.upstream_connections.specs.Progress.{answer_of};
@@ -95,18 +95,6 @@ pub fn give(connections: &mut Vec<UpstreamConnection>, k: u32, stream: u32, answ
 {
     if let Some(place) = place_of(connections, k) {
         connections[place].give(stream, answer);
-    }
-}
-
-/// The answer of the connection with this number, for which this takes its place; or this, where there is none.
-pub fn replace_answer(connections: &mut Vec<UpstreamConnection>, k: u32, answer: Answer) -> Answer
-    requires { AreRising connections.old.items }
-    ensures is { MatchOption (find number_of k (reverse connections.old.items)) (result ≡ answer) (λ c. result ≡ c.answer) }
-    ensures rest { reverse connections.new.items ≡ map (answer_at k answer) (reverse connections.old.items) }
-{
-    match place_of(connections, k) {
-        Some(place) => connections[place].replace_answer(answer),
-        None => answer,
     }
 }
 

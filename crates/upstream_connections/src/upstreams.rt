@@ -8,7 +8,7 @@ ghost use Rattle.theory_requests.specs.Lines.{find, without, least_idle};
 ghost use Rattle.theory_requests.specs.State.{id_of, held_of, drop_from};
 ghost use Rattle.theory_requests.specs.State.Due.{ToOpen};
 ghost use Rattle.upstream_connections.specs.Requests.{stage_of, due_for, due_by, on_idle, MayTakeOf, Takes};
-ghost use Rattle.upstream_connections.specs.Connections.{number_of, works_for, lives, fresh, heard_at, answer_at, put_at, taken_at, AreRising, HasRoom};
+ghost use Rattle.upstream_connections.specs.Connections.{number_of, works_for, lives, fresh, heard_at, put_at, taken_at, AreRising, HasRoom};
 ghost use Rattle.upstream_connections.specs.Kept.{nothing, opened_for, given_for, Begins};
 ghost use Rattle.upstream_connections.specs.Progress.{heard_of};
 
@@ -49,6 +49,9 @@ impl Model for Upstreams {
 }
 
 impl Upstreams {
+    ghost use Rattle.std.specs.Borrow.{sem};
+    ghost use Rattle.upstream_connections.specs.Lends.{LendsAnswer};
+
     /// Nothing is held, and no connection was opened.
     pub fn new(alloc: Global) -> Upstreams
         ensures { result ≡ nothing }
@@ -261,14 +264,16 @@ impl Upstreams {
         }
     }
 
-    /// Lends out the answer of a connection, as far as it has come, for which this one takes its
-    /// place until it is put back by the same call; where the connection isn't open, this one is
-    /// given back.
-    pub fn replace_answer(&mut self, k: u32, answer: Answer) -> Answer
-        ensures is { MatchOption (find number_of k self.old.live) (result ≡ answer) (λ connection. result ≡ connection.answer) }
-        ensures rest { self.new ≡ record self.old { live = map (answer_at k answer) self.old.live } }
+    /// The answer of an open connection, as far as it has come, to write to.
+    pub fn answer_mut(&mut self, k: u32) -> Option<&mut Answer>
+        ensures* lends { sem 𝓛 (LendsAnswer self.entry k result) }
+        ensures is { MatchOption result (find number_of k self.old.live ≡ None) (λ answer. IfSome (find number_of k self.old.live)
+            (λ connection. answer.now ≡ connection.answer)) }
     {
-        connections::replace_answer(&mut self.connections, k, answer)
+        match connections::place_of(&self.connections, k) {
+            Some(place) => Some(self.connections[place].answer_mut()),
+            None => None,
+        }
     }
 
     /// A connection is closed, and what goes out there is dropped.

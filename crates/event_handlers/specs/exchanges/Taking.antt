@@ -26,12 +26,19 @@ answered_with k answer offers kept = record {
 abbrev pub served_by : Line → Option ℕ
 served_by l = if is_idle l.answer then None else Some l.stream
 
--- what is left of an answer that was lent out: nothing, once it is over
+-- what is left of an answer: nothing, once it is over
 abbrev pub left_of : Heard → Answer → Answer
 left_of heard.GoesOn answer = answer
 left_of _ answer = fresh false Streaming
 
--- The octets come to this, on the open connection with this number.
+-- The octets come to this, of which nothing is kept once the answer is over.
+pub record IsHeardOut (old : theory_responses.State) (stream : ℕ) (answer : Answer) (octets : List ℕ) (heard : Heard) (left : Answer)
+    (new : theory_responses.State) : Type 0 where
+  pub behind : Answer
+  pub hears : IsHeardFor old stream answer octets heard behind new
+  pub left_is : left ≡ left_of heard behind
+
+-- They come to this on the open connection with this number.
 pub record AreTaken (old : View) (k : ℕ) (octets : List ℕ) (heard : Heard) (new : View) : Type 0 where
   pub connection : Connection
   pub found : find number_of k old.upstreams.live ≡ Some connection

@@ -1,21 +1,24 @@
 //! What comes of an upstream goes to its answer, and what is news of that is on offer.
 
-ghost use Rattle.std.specs.Prelude.{◌≡◌, ◌<◌, true, IfSome, IfErr, IfOk, OnOk, is_some};
+ghost use Rattle.std.specs.Prelude.{◌≡◌, ◌<◌, true, false, IfSome, IfErr, IfOk, OnOk, is_some};
 ghost use Rattle.model.specs.Logs.Act.{Close};
 ghost use Rattle.model.specs.Logs.Output.{Does};
 ghost use Rattle.model.specs.Tapes.{put};
 ghost use Rattle.send_queue.specs.Asked.{is_kept};
+ghost use Rattle.send_queue.specs.Changes.{IsEndedFor};
 ghost use Rattle.theory_requests.specs.Lines.{find};
 ghost use Rattle.streams.specs.Asked.{is_active};
-ghost use Rattle.upstream_connections.specs.Connections.{number_of};
+ghost use Rattle.upstream_connections.specs.Connections.{number_of, fresh};
+ghost use Rattle.upstream_response.specs.declared.answer.ResponsePassing.TheVariants.{Streaming};
 ghost use Rattle.event_handlers.specs.Stopping.{IfOver, IsCalmed};
 ghost use Rattle.event_handlers.specs.exchanges.Giving.{closed_at, is_cut_then, replied_to, IsAbandoned};
-ghost use Rattle.event_handlers.specs.exchanges.Taking.{served_by, AreTaken, IsEndTaken};
+ghost use Rattle.event_handlers.specs.exchanges.Taking.{served_by, IsHeardOut, AreTaken, IsEndTaken};
 
 use crate::exchanges::failing::give_up;
 use crate::halt::Halt;
 use effects::Outputs;
 use refinement::Session;
+use send_queue::Offers;
 use std::alloc::{AllocError, Global};
 use upstream_response::{Answer, AnswerEnd, Heard, ResponsePassing};
 
@@ -44,8 +47,27 @@ pub(crate) fn served_by(session: &Session, k: u32) -> Option<u32>
     Some(connection.stream())
 }
 
-/// Octets of an upstream go to its answer, which is lent out for that, and put back where its
-/// response goes on: of one that is over nothing is kept. An `Err` says that memory was refused.
+/// Octets of an upstream go to its answer, of which nothing is kept once its response is over. An
+/// `Err` says that memory was refused.
+fn hear_answer(
+    alloc: Global,
+    offers: &mut Offers,
+    stream: u32,
+    answer: &mut Answer,
+    octets: &[u8],
+) -> Result<Heard, AllocError>
+    requires { is_kept stream offers.old.kept ≡ true }
+    ensures { IfOk result (λ heard. IsHeardOut offers.old stream answer.old octets.now heard answer.new offers.new) }
+{
+    let heard = offers.hear(stream, answer, octets)?;
+    if heard == Heard::GoesOn {
+        return Ok(heard);
+    }
+    *answer = Answer::new(alloc, false, ResponsePassing::Streaming);
+    Ok(heard)
+}
+
+/// Octets of an upstream go to the answer of its connection. An `Err` says that memory was refused.
 pub(crate) fn take_octets(
     alloc: Global,
     session: &mut Session,
@@ -58,17 +80,29 @@ pub(crate) fn take_octets(
     requires kept { is_kept stream session.old.offers.kept ≡ true }
     ensures { IfOk result (λ heard. AreTaken session.old k octets.now heard session.new) }
 {
-    let nothing = Answer::new(alloc, false, ResponsePassing::Streaming);
-    let mut answer = session.upstreams.replace_answer(k, nothing);
-    let heard = session.offers.hear(stream, &mut answer, octets)?;
-    if let Heard::GoesOn = heard {
-        session.upstreams.replace_answer(k, answer);
-    }
-    Ok(heard)
+    let Some(answer) = session.upstreams.answer_mut(k) else {
+        unreachable!();
+    };
+    hear_answer(alloc, &mut session.offers, stream, answer, octets)
 }
 
 /// The end of an upstream's connection goes to its answer, of which nothing is kept behind it. An
 /// `Err` says that memory was refused.
+fn end_answer(
+    alloc: Global,
+    offers: &mut Offers,
+    stream: u32,
+    answer: &mut Answer,
+) -> Result<AnswerEnd, AllocError>
+    requires { is_kept stream offers.old.kept ≡ true }
+    ensures { IfOk result (λ ended. IsEndedFor offers.old stream answer.old ended offers.new × (answer.new ≡ fresh false Streaming)) }
+{
+    let ended = offers.end(stream, answer)?;
+    *answer = Answer::new(alloc, false, ResponsePassing::Streaming);
+    Ok(ended)
+}
+
+/// The end of an upstream's connection goes to its answer. An `Err` says that memory was refused.
 pub(crate) fn take_end(
     alloc: Global,
     session: &mut Session,
@@ -80,9 +114,10 @@ pub(crate) fn take_end(
     requires kept { is_kept stream session.old.offers.kept ≡ true }
     ensures { IfOk result (λ ended. IsEndTaken session.old k ended session.new) }
 {
-    let nothing = Answer::new(alloc, false, ResponsePassing::Streaming);
-    let mut answer = session.upstreams.replace_answer(k, nothing);
-    session.offers.end(stream, &mut answer)
+    let Some(answer) = session.upstreams.answer_mut(k) else {
+        unreachable!();
+    };
+    end_answer(alloc, &mut session.offers, stream, answer)
 }
 
 /// Closes an open connection. An `Err` says that memory was refused.

@@ -123,12 +123,16 @@ fn turn(service: &mut Service, world: &mut Quiet) -> Result<Option<ServiceEnd>, 
 /// Of two services that took no turn the world of the second ends, at its second turn.
 fn assert_take_turns(rt: &impl Abort, stays: &mut Service, goes: &mut Service) {
     let (mut one, mut other) = (leaving_at(9), leaving_at(1));
-    assert_eq!(rt; turn(stays, &mut one), Ok(None));
-    assert_eq!(rt; turn(goes, &mut other), Ok(None));
-    assert_eq!(rt; turn(goes, &mut other), Ok(Some(ServiceEnd::Closed)));
-    assert_eq!(rt; turn(stays, &mut one), Ok(None));
-    // Behind its end a service answers as it did, and its world isn't asked.
-    assert_eq!(rt; turn(goes, &mut other), Ok(Some(ServiceEnd::Closed)));
+    let answers = [
+        turn(stays, &mut one),
+        turn(goes, &mut other),
+        turn(goes, &mut other),
+        turn(stays, &mut one),
+        // Behind its end a service answers as it did, and its world isn't asked.
+        turn(goes, &mut other),
+    ];
+    let closed = Ok(Some(ServiceEnd::Closed));
+    assert_eq!(rt; answers, [Ok(None), Ok(None), closed, Ok(None), closed]);
     assert_eq!(rt; (one.turn, other.turn), (2, 2));
 }
 

@@ -58,24 +58,38 @@ fn a_request_says_nothing_of_a_close_where_its_connection_is_kept(
     Ok(())
 }
 
-/// A request that declares no length and waits for its body.
-fn waiting(alloc: Global, rt: &impl Abort) -> Result<BufferedRequest, Fail>
-    ensures { IfOk result (λ request. (parts : HeadParts) × (parts.length ≡ None) × IsBegun false parts false 7 (Begun.Waits request)) }
+/// A request of these fields, which declare this length, that waits for its body.
+fn declaring(
+    alloc: Global,
+    rt: &impl Abort,
+    fields: &[u8],
+    length: Option<u64>,
+) -> Result<BufferedRequest, Fail>
+    ensures { IfOk result (λ request. (parts : HeadParts) × (parts.length ≡ length) × IsBegun false parts false 7 (Begun.Waits request)) }
 {
-    let head = head_of(alloc, rt, POST, false)?;
-    assert!(rt; head.length().is_none());
+    let head = head_of(alloc, rt, fields, false)?;
+    if head.length() != length {
+        return Err(Fail::from("another length"));
+    }
     match begin(alloc, &head, false, false, 7)? {
         Begun::Waits(request) => Ok(request),
         Begun::Whole(_) => Err(Fail::from("whole")),
     }
 }
 
+/// A request that declares no length and waits for its body.
+fn waiting(alloc: Global, rt: &impl Abort) -> Result<BufferedRequest, Fail>
+    ensures { IfOk result (λ request. (parts : HeadParts) × (parts.length ≡ None) × IsBegun false parts false 7 (Begun.Waits request)) }
+{
+    declaring(alloc, rt, POST, None)
+}
+
 #[test]
 fn a_body_is_written_in_one_piece(rt: HostRuntime) -> Result<(), Fail> {
     let mut request = waiting(rt.alloc(), &rt)?;
-    assert_eq!(rt; (request.route(), request.len()), (7, 0));
+    let before = (request.route(), request.len());
     request.gather(b"hel")?;
-    assert_eq!(rt; request.len(), 3);
+    assert_eq!(rt; (before, request.len()), ((7, 0), 3));
     let text = request.finish(b"lo", &[])?;
     assert_eq!(rt;
         text.as_slice(),
@@ -102,10 +116,10 @@ fn a_body_of_several_frames_stands_behind_the_line_with_its_size(
     let wanted = in_one_chunk(rt.alloc())?;
     let mut request = waiting(rt.alloc(), &rt)?;
     request.gather(b"")?;
-    assert_eq!(rt; request.len(), 0);
+    let before = request.len();
     request.gather(&[b'a'; 255])?;
     request.gather(b"b")?;
-    assert_eq!(rt; request.len(), 256);
+    assert_eq!(rt; [before, request.len()], [0, 256]);
     let text = request.finish(b"", &[])?;
     assert_eq!(rt; text.as_slice(), wanted.as_slice());
     Ok(())
@@ -130,51 +144,51 @@ const NONE: &[u8] = b":method=PUT|:scheme=http|:path=/|:authority=h|content-leng
 
 #[test]
 fn a_body_goes_out_in_chunks_as_it_comes(rt: HostRuntime) -> Result<(), Fail> {
-    let head = head_of(rt.alloc(), &rt, POST, false)?;
-    assert!(rt; head.length().is_none());
-    let Begun::Waits(request) = begin(rt.alloc(), &head, false, false, 7)? else {
-        return Err(Fail::from("whole"));
-    };
+    let request = waiting(rt.alloc(), &rt)?;
     let (text, mut going) = request.go();
-    assert_eq!(rt;
-        text.as_slice(),
-        b"POST / HTTP/1.1\r\nhost: h\r\nvia: 2.0 h2gw\r\ntransfer-encoding: chunked\r\nconnection: close\r\n\r\n".as_slice()
-    );
     let first = going.pass(rt.alloc(), b"hel", false, &[])?;
-    assert_eq!(rt; first.as_slice(), b"3\r\nhel\r\n".as_slice());
     let last = going.pass(rt.alloc(), b"lo", true, &[])?;
-    assert_eq!(rt; last.as_slice(), b"2\r\nlo\r\n0\r\n\r\n".as_slice());
+    let wanted: [&[u8]; 3] = [
+        b"POST / HTTP/1.1\r\nhost: h\r\nvia: 2.0 h2gw\r\ntransfer-encoding: chunked\r\nconnection: close\r\n\r\n",
+        b"3\r\nhel\r\n",
+        b"2\r\nlo\r\n0\r\n\r\n",
+    ];
+    assert_eq!(rt;
+        [text.as_slice(), first.as_slice(), last.as_slice()],
+        wanted
+    );
+    Ok(())
+}
+
+/// A body of five octets goes out as it comes, the last one with its end, behind which these
+/// trailers come.
+fn assert_held_back(rt: &impl Abort, alloc: Global, trailers: &[Field]) -> Result<(), Fail> {
+    let request = declaring(alloc, rt, FIVE, Some(5))?;
+    let (text, mut going) = request.go();
+    let declares = text.ends_with(b"content-length: 5\r\nconnection: close\r\n\r\n");
+    let first = going.pass(alloc, b"hello", false, &[])?;
+    let last = going.pass(alloc, b"", true, trailers)?;
+    let wanted: [&[u8]; 2] = [b"hell", b"o"];
+    assert_eq!(rt;
+        (declares, [first.as_slice(), last.as_slice()]),
+        (true, wanted)
+    );
     Ok(())
 }
 
 #[test]
 fn the_last_octet_is_held_back_until_the_end(rt: HostRuntime) -> Result<(), Fail> {
     let trailers = two_trailers(rt.alloc())?;
-    let head = head_of(rt.alloc(), &rt, FIVE, false)?;
-    assert_eq!(rt; head.length(), Some(5));
-    let Begun::Waits(request) = begin(rt.alloc(), &head, false, false, 7)? else {
-        return Err(Fail::from("whole"));
-    };
-    let (text, mut going) = request.go();
-    assert!(rt; text.ends_with(b"content-length: 5\r\nconnection: close\r\n\r\n"));
-    let first = going.pass(rt.alloc(), b"hello", false, &[])?;
-    assert_eq!(rt; first.as_slice(), b"hell".as_slice());
-    let last = going.pass(rt.alloc(), b"", true, &trailers)?;
-    assert_eq!(rt; last.as_slice(), b"o".as_slice());
-    Ok(())
+    assert_held_back(&rt, rt.alloc(), &trailers)
 }
 
 #[test]
 fn a_head_that_declares_no_octets_is_whole_with_the_end(rt: HostRuntime) -> Result<(), Fail> {
-    let head = head_of(rt.alloc(), &rt, NONE, false)?;
-    assert_eq!(rt; head.length(), Some(0));
-    let Begun::Waits(request) = begin(rt.alloc(), &head, false, false, 7)? else {
-        return Err(Fail::from("whole"));
-    };
+    let request = declaring(rt.alloc(), &rt, NONE, Some(0))?;
     let (text, mut going) = request.go();
-    assert!(rt; text.ends_with(b"content-length: 0\r\nconnection: close\r\n\r"));
+    let declares = text.ends_with(b"content-length: 0\r\nconnection: close\r\n\r");
     let last = going.pass(rt.alloc(), b"", true, &[])?;
-    assert_eq!(rt; last.as_slice(), b"\n".as_slice());
+    assert_eq!(rt; (declares, last.as_slice()), (true, b"\n".as_slice()));
     Ok(())
 }
 

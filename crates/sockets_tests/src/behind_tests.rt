@@ -1,73 +1,120 @@
 //! A client is read behind connections that their servers ended.
 
-ghost use Rattle.std.specs.Prelude.{◌≡◌};
+ghost use Rattle.std.specs.Prelude.{◌≡◌, ◌+◌, ◌<◌, ◌^◌, OnOk};
 
-use crate::loopback::pair;
-use driver::{Next, World};
-use gateway::{Event, Output};
-use sockets::{Reactor, SocketWorld};
+use crate::loopback::waiting_listener;
+use crate::worlds::{Came, PlainWorld, alone, came_next, open, under};
+use sockets::Reactor;
 use std::io::Write;
-use std::mem;
-use std::net::{Ipv4Addr, SocketAddr, TcpListener};
+use std::net::{TcpListener, TcpStream};
+use std::process::Abort;
 use std::test::*;
 use std::time::Duration;
+use std::{io, mem};
 
 /// There is room for an upstream's octets.
 const ROOMS: [(u32, usize); 1] = [(1, 65536)];
 
-#[test]
-fn a_connection_that_ended_comes_first(rt: HostRuntime) -> Result<(), Fail> {
-    let listener = TcpListener::bind(&rt, SocketAddr::from((Ipv4Addr::LOCALHOST, 0)))?;
-    let addresses = [listener.local_addr()?];
-    let (mut client, far) = pair(&rt)?;
-    let mut world = SocketWorld::new(rt.alloc(), &rt, &addresses, far)?;
-    world.apply(&Output::Open(1, 0))?;
-    let (socket, _address) = listener.accept()?;
-    client.write_all(b"a")?;
-    let next = world.next(&ROOMS);
-    assert!(rt; matches!(next, Ok(Next::Happened(Event::Client(_)))));
-    assert!(rt; world.is_behind());
-    client.write_all(b"b")?;
-    mem::drop(socket);
-    let next = world.next(&ROOMS);
-    assert!(rt; matches!(next, Ok(Next::Happened(Event::UpEnd(1)))));
-    assert!(rt; !world.is_behind());
-    let next = world.next(&ROOMS);
-    assert!(rt; matches!(next, Ok(Next::Happened(Event::Client(_)))));
-    Ok(())
-}
-
 /// There is none for the first upstream's, and some for the second's.
 const NO_ROOM: [(u32, usize); 2] = [(1, 0), (2, 65536)];
 
-#[test]
-fn one_without_room_keeps_no_end_back(rt: HostRuntime) -> Result<(), Fail> {
-    let listener = TcpListener::bind(&rt, SocketAddr::from((Ipv4Addr::LOCALHOST, 0)))?;
-    let addresses = [listener.local_addr()?];
-    let (mut client, far) = pair(&rt)?;
-    let mut world = SocketWorld::new(rt.alloc(), &rt, &addresses, far)?;
-    world.apply(&Output::Open(1, 0))?;
-    let (mut waits, _address) = listener.accept()?;
-    world.apply(&Output::Open(2, 0))?;
-    let (socket, _address) = listener.accept()?;
-    waits.write_all(b"x")?;
+/// What comes in turn, and whether the client is read behind connections after the first and the
+/// second of it.
+type Turns = ([Came; 3], [bool; 2]);
+
+/// What comes where the client sends an octet, and then another one while an upstream ends its
+/// connection.
+fn turns_around_an_end(
+    world: &mut PlainWorld<'_>,
+    rooms: &[(u32, usize)],
+    client: &mut TcpStream,
+    upstream: TcpStream,
+) -> io::Result<Turns>
+    requires calls { world.old.calls + 3 < 2 ^ 64 }
+    requires failures { world.old.failures + 3 < 2 ^ 64 }
+{
     client.write_all(b"a")?;
-    let next = world.next(&NO_ROOM);
-    assert!(rt; matches!(next, Ok(Next::Happened(Event::Client(_)))));
+    let first = came_next(world, rooms);
+    let is_behind = world.is_behind();
     client.write_all(b"b")?;
-    mem::drop(socket);
-    let next = world.next(&NO_ROOM);
-    assert!(rt; matches!(next, Ok(Next::Happened(Event::UpEnd(2)))));
-    let next = world.next(&NO_ROOM);
-    assert!(rt; matches!(next, Ok(Next::Happened(Event::Client(_)))));
+    mem::drop(upstream);
+    let second = came_next(world, rooms);
+    let stays_behind = world.is_behind();
+    let third = came_next(world, rooms);
+    Ok(([first, second, third], [is_behind, stays_behind]))
+}
+
+/// An end that comes behind an octet of the client comes before the next one, and the client is
+/// read behind connections until it did.
+fn assert_end_comes_first(
+    rt: &impl Abort,
+    world: &mut PlainWorld<'_>,
+    listener: &TcpListener,
+    client: &mut TcpStream,
+) -> Result<(), Fail>
+    requires calls { world.old.calls + 3 < 2 ^ 64 }
+    requires failures { world.old.failures + 3 < 2 ^ 64 }
+{
+    open(world, 1, 0)?;
+    let (upstream, _address) = listener.accept()?;
+    let turns = turns_around_an_end(world, &ROOMS, client, upstream)?;
+    let wanted = [Came::Client, Came::UpEnd(1), Came::Client];
+    assert_eq!(rt; turns, (wanted, [true, false]));
     Ok(())
 }
 
-/// Waits a little, and tells a world what was reported for its sockets.
-fn tell(
-    reactor: &mut Reactor,
-    world: &mut SocketWorld<'_, HostRuntime, mio::net::TcpStream>,
+#[test]
+fn a_connection_that_ended_comes_first(rt: HostRuntime) -> Result<(), Fail> {
+    let listener = waiting_listener(&rt)?;
+    let addresses = [listener.local_addr()?];
+    let (mut client, mut world) = alone(&rt, &addresses)?;
+    assert_end_comes_first(&rt, &mut world, &listener, &mut client)
+}
+
+/// Opens two connections, and sends an octet on the first: its other end, and that of the second.
+fn open_two(
+    world: &mut PlainWorld<'_>,
+    listener: &TcpListener,
+) -> Result<(TcpStream, TcpStream), Fail>
+    requires { world.old.failures + 1 < 2 ^ 64 }
+    ensures calls { world.new.calls ≡ world.old.calls }
+    ensures failures { OnOk result (world.new.failures ≡ world.old.failures) }
+{
+    open(world, 1, 0)?;
+    let (mut first, _address) = listener.accept()?;
+    open(world, 2, 0)?;
+    let (second, _address) = listener.accept()?;
+    first.write_all(b"x")?;
+    Ok((first, second))
+}
+
+/// The end of a second connection comes before the client's next octet, though the first one has
+/// octets and no room.
+fn assert_end_is_not_kept_back(
+    rt: &impl Abort,
+    world: &mut PlainWorld<'_>,
+    listener: &TcpListener,
+    client: &mut TcpStream,
 ) -> Result<(), Fail>
+    requires calls { world.old.calls + 3 < 2 ^ 64 }
+    requires failures { world.old.failures + 3 < 2 ^ 64 }
+{
+    let (_waits, upstream) = open_two(world, listener)?;
+    let (came, _behind) = turns_around_an_end(world, &NO_ROOM, client, upstream)?;
+    assert_eq!(rt; came, [Came::Client, Came::UpEnd(2), Came::Client]);
+    Ok(())
+}
+
+#[test]
+fn one_without_room_keeps_no_end_back(rt: HostRuntime) -> Result<(), Fail> {
+    let listener = waiting_listener(&rt)?;
+    let addresses = [listener.local_addr()?];
+    let (mut client, mut world) = alone(&rt, &addresses)?;
+    assert_end_is_not_kept_back(&rt, &mut world, &listener, &mut client)
+}
+
+/// Waits a little, and tells a world what was reported for its sockets.
+fn tell(reactor: &mut Reactor, world: &mut PlainWorld<'_>) -> Result<(), Fail>
     ensures { (world.new.calls ≡ world.old.calls) × (world.new.failures ≡ world.old.failures) }
 {
     reactor.wait(Some(Duration::from_millis(50)))?;
@@ -77,29 +124,56 @@ fn tell(
     Ok(())
 }
 
+/// What comes under a reactor where the client sends an octet, and then another one while an
+/// upstream ends its connection.
+fn turns_under_a_reactor(
+    reactor: &mut Reactor,
+    world: &mut PlainWorld<'_>,
+    client: &mut TcpStream,
+    upstream: TcpStream,
+) -> Result<Turns, Fail>
+    requires calls { world.old.calls + 3 < 2 ^ 64 }
+    requires failures { world.old.failures + 3 < 2 ^ 64 }
+{
+    client.write_all(b"a")?;
+    tell(reactor, world)?;
+    let first = came_next(world, &ROOMS);
+    let is_behind = world.is_behind();
+    client.write_all(b"b")?;
+    mem::drop(upstream);
+    tell(reactor, world)?;
+    world.catch_up();
+    let stays_behind = world.is_behind();
+    let second = came_next(world, &ROOMS);
+    let third = came_next(world, &ROOMS);
+    Ok(([first, second, third], [is_behind, stays_behind]))
+}
+
+/// The same as without a reactor, where the world is told before each turn.
+fn assert_end_comes_first_as_told(
+    rt: &impl Abort,
+    reactor: &mut Reactor,
+    world: &mut PlainWorld<'_>,
+    listener: &TcpListener,
+    client: &mut TcpStream,
+) -> Result<(), Fail>
+    requires calls { world.old.calls + 3 < 2 ^ 64 }
+    requires failures { world.old.failures + 3 < 2 ^ 64 }
+{
+    open(world, 1, 0)?;
+    let (upstream, _address) = listener.accept()?;
+    let turns = turns_under_a_reactor(reactor, world, client, upstream)?;
+    let wanted = [Came::Client, Came::UpEnd(1), Came::Client];
+    assert_eq!(rt; turns, (wanted, [true, false]));
+    Ok(())
+}
+
 #[test]
 fn a_connection_that_ended_comes_first_under_a_reactor(rt: HostRuntime) -> Result<(), Fail> {
-    let listener = TcpListener::bind(&rt, SocketAddr::from((Ipv4Addr::LOCALHOST, 0)))?;
+    let listener = waiting_listener(&rt)?;
     let addresses = [listener.local_addr()?];
-    let (mut client, far) = pair(&rt)?;
     let mut reactor = Reactor::new(rt.alloc(), &rt)?;
     let sources = reactor.sources()?;
-    let mut world = SocketWorld::under(rt.alloc(), &rt, &addresses, &sources, 1, far)?;
-    world.apply(&Output::Open(1, 0))?;
-    let (socket, _address) = listener.accept()?;
-    client.write_all(b"a")?;
-    tell(&mut reactor, &mut world)?;
-    let next = world.next(&ROOMS);
-    assert!(rt; matches!(next, Ok(Next::Happened(Event::Client(_)))));
-    assert!(rt; world.is_behind());
-    client.write_all(b"b")?;
-    mem::drop(socket);
-    tell(&mut reactor, &mut world)?;
-    world.catch_up();
-    assert!(rt; !world.is_behind());
-    let next = world.next(&ROOMS);
-    assert!(rt; matches!(next, Ok(Next::Happened(Event::UpEnd(1)))));
-    let next = world.next(&ROOMS);
-    assert!(rt; matches!(next, Ok(Next::Happened(Event::Client(_)))));
-    Ok(())
+    let (mut client, mut world) = under(&rt, &addresses, &sources, 1)?;
+    assert_end_comes_first_as_told(&rt, &mut reactor, &mut world, &listener, &mut client)
 }

@@ -95,11 +95,11 @@ fn a_client_that_is_left_reads_all(rt: HostRuntime) -> Result<(), Fail> {
     let read = RefCell::new(Vec::new(rt.alloc()));
     let client = socket_of(&rt, &read)?;
     let mut world = SocketWorld::new(rt.alloc(), &rt, &[], client)?;
-    let sent = world.apply(&Output::Client(numbers(rt.alloc())?));
+    let sent = world.apply(&Output::Client(numbers(rt.alloc(), 4_000_000)?));
     assert_eq!(rt; sent, Ok(()));
     world.finish()?;
     let found = read.try_borrow();
-    let written = numbers(rt.alloc())?;
+    let written = numbers(rt.alloc(), 4_000_000)?;
     assert!(rt; matches!(&found, Ok(octets) if **octets == written));
     Ok(())
 }

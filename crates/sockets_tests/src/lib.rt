@@ -21,3 +21,5 @@ mod side_tests;
 mod upstream_tests;
 #[cfg(test)]
 mod world_tests;
+#[cfg(test)]
+mod worlds;

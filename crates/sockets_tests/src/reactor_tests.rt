@@ -1,43 +1,28 @@
 //! Worlds under a reactor.
 
-ghost use Rattle.std.specs.Prelude.{◌≡◌, IfOk};
+ghost use Rattle.std.specs.Prelude.{◌≡◌, ◌+◌, ◌<◌, ◌≤◌, ◌^◌};
 
-use crate::loopback::pair;
+use crate::worlds::{Came, PlainWorld, came_next, under};
 use driver::{Next, World, WorldFault};
 use gateway::{Event, Output};
 use mio::Registry;
 use mio::event::Event as Report;
-use sockets::{Buffer, Departure, Reactor, SocketWorld, client_in, number_in, token_in};
+use sockets::{Buffer, Departure, Reactor, client_in, number_in, token_in};
 use std::io;
 use std::io::{ErrorKind, Read, Write};
 use std::net::{Shutdown, TcpStream};
+use std::process::Abort;
 use std::test::*;
 use std::time::{Duration, Instant};
 
 /// More octets than a socket takes at once.
 const MANY: usize = 5_000_000;
 
-/// A world under a reactor, without upstreams.
-type Told<'a> = SocketWorld<'a, HostRuntime, mio::net::TcpStream>;
-
-/// The world of a client with this number under a reactor, and the client.
-fn told<'a>(
-    rt: &'a HostRuntime,
-    sources: &'a Registry,
-    number: u32,
-) -> io::Result<(TcpStream, Told<'a>)>
-    ensures { IfOk result (λ both. (both.1.calls ≡ 0) × (both.1.failures ≡ 0)) }
-{
-    let (client, far) = pair(rt)?;
-    let world = SocketWorld::under(rt.alloc(), rt, &[], sources, number, far)?;
-    Ok((client, world))
-}
-
 /// Tells a report to the world whose it is. The answer is how many reports were of neither.
 fn tell_one(
     report: &Report,
-    first: &mut Told<'_>,
-    second: &mut Told<'_>,
+    first: &mut PlainWorld<'_>,
+    second: &mut PlainWorld<'_>,
 ) -> Result<usize, WorldFault>
     ensures first { (first.new.calls ≡ first.old.calls) × (first.new.failures ≡ first.old.failures) }
     ensures second { (second.new.calls ≡ second.old.calls) × (second.new.failures ≡ second.old.failures) }
@@ -56,7 +41,11 @@ fn tell_one(
 
 /// Waits a little, and tells each world what was reported for its sockets. The answer is how many
 /// reports were of neither.
-fn tell(reactor: &mut Reactor, first: &mut Told<'_>, second: &mut Told<'_>) -> Result<usize, Fail>
+fn tell(
+    reactor: &mut Reactor,
+    first: &mut PlainWorld<'_>,
+    second: &mut PlainWorld<'_>,
+) -> Result<usize, Fail>
     ensures first { (first.new.calls ≡ first.old.calls) × (first.new.failures ≡ first.old.failures) }
     ensures second { (second.new.calls ≡ second.old.calls) × (second.new.failures ≡ second.old.failures) }
 {
@@ -68,11 +57,6 @@ fn tell(reactor: &mut Reactor, first: &mut Told<'_>, second: &mut Told<'_>) -> R
     Ok(others)
 }
 
-/// Whether nothing comes.
-fn is_nothing(next: &Result<Next, WorldFault>) -> bool {
-    matches!(next, Ok(Next::Nothing))
-}
-
 #[test]
 fn a_token_tells_whose_it_is(rt: HostRuntime) {
     for (client, number) in [(0, 0), (0, 7), (1, 0), (7, 1), (u32::MAX, u32::MAX)] {
@@ -82,25 +66,97 @@ fn a_token_tells_whose_it_is(rt: HostRuntime) {
     }
 }
 
+/// What comes next of a world, and whether it is quiet then.
+fn came_and_quiet(world: &mut PlainWorld<'_>) -> (Came, bool)
+    requires calls { world.old.calls + 1 < 2 ^ 64 }
+    requires failures { world.old.failures + 1 < 2 ^ 64 }
+    ensures calls { world.new.calls ≡ world.old.calls + 1 }
+    ensures failures { world.new.failures ≤ world.old.failures + 1 }
+{
+    let came = came_next(world, &[]);
+    (came, world.is_quiet())
+}
+
+/// Whether these octets of the client come next of a world, which noted once that it moved.
+fn is_given(world: &mut PlainWorld<'_>, octets: &[u8]) -> bool
+    requires calls { world.old.calls + 1 < 2 ^ 64 }
+    requires failures { world.old.failures + 1 < 2 ^ 64 }
+    ensures calls { world.new.calls ≡ world.old.calls + 1 }
+    ensures failures { world.new.failures ≤ world.old.failures + 1 }
+{
+    let next = world.next(&[]);
+    matches!(&next, Ok(Next::Happened(Event::Client(piece))) if piece.as_slice() == octets)
+        && world.take_moved()
+        && !world.take_moved()
+}
+
+/// Of two worlds that were told of nothing as yet, octets come to the first one's client. The
+/// answer is whether they come of that world alone, once it is told.
+fn is_told_alone(
+    reactor: &mut Reactor,
+    one: &mut PlainWorld<'_>,
+    other: &mut PlainWorld<'_>,
+    octets: &[u8],
+) -> Result<bool, Fail>
+    requires calls { (one.old.calls + 3 < 2 ^ 64) × (other.old.calls + 3 < 2 ^ 64) }
+    requires failures { (one.old.failures + 3 < 2 ^ 64) × (other.old.failures + 3 < 2 ^ 64) }
+{
+    // Nothing was reported to either as yet, and neither waits.
+    let before = [came_and_quiet(one), came_and_quiet(other)];
+    let others = tell(reactor, one, other)?;
+    let are_quiet = [one.is_quiet(), other.is_quiet()];
+    let is_given = is_given(one, octets) && !other.take_moved();
+    let behind = [came_and_quiet(one), came_and_quiet(other)];
+    let nothing = [(Came::Nothing, true); 2];
+    Ok(is_given && others == 0 && are_quiet == [false, true] && [before, behind] == [nothing; 2])
+}
+
+/// What a client sends is told of its world alone.
+fn assert_told_alone(
+    rt: &impl Abort,
+    reactor: &mut Reactor,
+    client: &mut TcpStream,
+    one: &mut PlainWorld<'_>,
+    other: &mut PlainWorld<'_>,
+) -> Result<(), Fail>
+    requires calls { (one.old.calls + 3 < 2 ^ 64) × (other.old.calls + 3 < 2 ^ 64) }
+    requires failures { (one.old.failures + 3 < 2 ^ 64) × (other.old.failures + 3 < 2 ^ 64) }
+{
+    client.write_all(b"abc")?;
+    assert!(rt; is_told_alone(reactor, one, other, b"abc")?);
+    Ok(())
+}
+
 #[test]
 fn each_world_is_told_what_is_its_own(rt: HostRuntime) -> Result<(), Fail> {
     let mut reactor = Reactor::new(rt.alloc(), &rt)?;
     let sources = reactor.sources()?;
-    let (mut first, mut one) = told(&rt, &sources, 1)?;
-    let (_second, mut other) = told(&rt, &sources, 2)?;
-    first.write_all(b"abc")?;
-    // Nothing was reported to either as yet, and neither waits.
-    assert!(rt; is_nothing(&one.next(&[])) && one.is_quiet());
-    assert!(rt; is_nothing(&other.next(&[])) && other.is_quiet());
-    assert_eq!(rt; tell(&mut reactor, &mut one, &mut other)?, 0);
-    assert!(rt; !one.is_quiet() && other.is_quiet());
-    let next = one.next(&[]);
-    assert!(rt;
-        matches!(&next, Ok(Next::Happened(Event::Client(piece))) if piece.as_slice() == b"abc".as_slice())
-    );
-    assert!(rt; one.take_moved() && !one.take_moved() && !other.take_moved());
-    assert!(rt; is_nothing(&one.next(&[])) && one.is_quiet());
-    assert!(rt; is_nothing(&other.next(&[])));
+    let (mut first, mut one) = under(&rt, &[], &sources, 1)?;
+    let (_second, mut other) = under(&rt, &[], &sources, 2)?;
+    assert_told_alone(&rt, &mut reactor, &mut first, &mut one, &mut other)
+}
+
+/// Behind what a client sent comes its end, once it is given up.
+fn assert_given_up(
+    rt: &impl Abort,
+    reactor: &mut Reactor,
+    client: &mut TcpStream,
+    one: &mut PlainWorld<'_>,
+    other: &mut PlainWorld<'_>,
+) -> Result<(), Fail>
+    requires calls { one.old.calls + 3 < 2 ^ 64 }
+    requires failures { one.old.failures + 3 < 2 ^ 64 }
+{
+    client.write_all(b"abc")?;
+    one.end_client()?;
+    let others = tell(reactor, one, other)?;
+    let came = [
+        came_next(one, &[]),
+        came_next(one, &[]),
+        came_next(one, &[]),
+    ];
+    let wanted = [Came::Client, Came::ClientEnd, Came::Nothing];
+    assert_eq!(rt; (others, came), (0, wanted));
     Ok(())
 }
 
@@ -108,17 +164,9 @@ fn each_world_is_told_what_is_its_own(rt: HostRuntime) -> Result<(), Fail> {
 fn a_client_that_is_given_up_ends(rt: HostRuntime) -> Result<(), Fail> {
     let mut reactor = Reactor::new(rt.alloc(), &rt)?;
     let sources = reactor.sources()?;
-    let (mut first, mut one) = told(&rt, &sources, 1)?;
-    let (_second, mut other) = told(&rt, &sources, 2)?;
-    first.write_all(b"abc")?;
-    one.end_client()?;
-    assert_eq!(rt; tell(&mut reactor, &mut one, &mut other)?, 0);
-    let next = one.next(&[]);
-    assert!(rt; matches!(&next, Ok(Next::Happened(Event::Client(_)))));
-    let next = one.next(&[]);
-    assert!(rt; matches!(&next, Ok(Next::Happened(Event::ClientEnd))));
-    assert!(rt; is_nothing(&one.next(&[])));
-    Ok(())
+    let (mut first, mut one) = under(&rt, &[], &sources, 1)?;
+    let (_second, mut other) = under(&rt, &[], &sources, 2)?;
+    assert_given_up(&rt, &mut reactor, &mut first, &mut one, &mut other)
 }
 
 /// Goes on leaving a client until it is left, in 100,000 rounds at most, while its other end reads,
@@ -170,7 +218,7 @@ fn read_on(socket: &mut TcpStream, read: &mut Vec<u8>) -> io::Result<bool> {
 fn a_client_is_left_beside_others(rt: HostRuntime) -> Result<(), Fail> {
     let mut reactor = Reactor::new(rt.alloc(), &rt)?;
     let sources = reactor.sources()?;
-    let (mut far, mut world) = told(&rt, &sources, 1)?;
+    let (mut far, mut world) = under(&rt, &[], &sources, 1)?;
     let sent = world.apply(&Output::Client(vec![in rt.alloc(); 7; MANY]?));
     assert_eq!(rt; sent, Ok(()));
     let mut departure = world.leave(Instant::now(&rt)?);
@@ -192,7 +240,7 @@ fn a_client_is_left_beside_others(rt: HostRuntime) -> Result<(), Fail> {
 fn a_client_that_is_left_is_waited_for_as_long(rt: HostRuntime) -> Result<(), Fail> {
     let reactor = Reactor::new(rt.alloc(), &rt)?;
     let sources = reactor.sources()?;
-    let (_far, world) = told(&rt, &sources, 1)?;
+    let (_far, world) = under(&rt, &[], &sources, 1)?;
     let mut departure = world.leave(Instant::now(&rt)?);
     let mut buffer = Buffer::new(rt.alloc());
     let most = departure.go_on(rt.alloc(), Instant::now(&rt)?, &sources, &mut buffer)?;

@@ -1,9 +1,10 @@
 //! One side: what it hears once it is shut, what it takes again, and for what it is reported.
 
-use crate::loopback::pair;
+use crate::loopback::{numbers, pair};
 use mio::{Events, Interest, Poll, Registry, Token};
-use socket_io::{Got, Socket};
+use socket_io::{Got, PutFault, Socket};
 use sockets::{Side, Wire};
+use std::alloc::Global;
 use std::cell::RefCell;
 use std::io;
 use std::io::{ErrorKind, Read, Write};
@@ -25,15 +26,17 @@ fn a_side_that_is_shut_still_hears(rt: HostRuntime) -> Result<(), Fail> {
     Ok(())
 }
 
-/// What the other end of a socket reads, with what is reported in between, until it has so many octets.
+/// What the other end of a socket reads, with what is reported in between, until it has so many
+/// octets.
 fn read_slowly(
+    alloc: Global,
     poll: &mut Poll,
-    reports: &mut Events,
     side: &mut Side<mio::net::TcpStream>,
     far: &mut TcpStream,
     most: usize,
     read: &mut Vec<u8>,
 ) -> io::Result<()> {
+    let mut reports = Events::with_capacity(alloc, 8)?;
     let mut room = [0u8; 4096];
     for _ in 0..100_000 {
         if read.len() >= most {
@@ -42,8 +45,8 @@ fn read_slowly(
         match far.read(&mut room) {
             Ok(count) => read.extend_from_slice(&room[..count])?,
             Err(error) if error.kind() == ErrorKind::WouldBlock => {
-                poll.poll(reports, Some(Duration::from_millis(10)))?;
-                note_all(reports, side);
+                poll.poll(&mut reports, Some(Duration::from_millis(10)))?;
+                note_all(&reports, side);
                 side.flush(poll.registry())?;
             }
             Err(error) => return Err(error),
@@ -58,34 +61,40 @@ fn note_all(reports: &Events, side: &mut Side<mio::net::TcpStream>) {
     }
 }
 
+/// Puts octets out in pieces.
+fn put_all(
+    registry: &Registry,
+    side: &mut Side<mio::net::TcpStream>,
+    octets: &[u8],
+) -> Result<(), PutFault> {
+    for piece in octets.chunks(777) {
+        side.put(registry, piece)?;
+    }
+    Ok(())
+}
+
 #[test]
 fn a_client_that_reads_slowly_reads_all(rt: HostRuntime) -> Result<(), Fail> {
     let (mut far, near) = pair(&rt)?;
     let mut poll = Poll::new(&rt)?;
-    let mut reports = Events::with_capacity(rt.alloc(), 8)?;
     let mut side = Side::new(rt.alloc(), poll.registry(), near, Token(1), 1000)?;
-    let mut written = Vec::new(rt.alloc());
-    for number in 0u32..1_500_000 {
-        written.extend_from_slice(&number.to_be_bytes())?;
-    }
-    for piece in written.chunks(777) {
-        side.put(poll.registry(), piece)?;
-    }
+    let written = numbers(rt.alloc(), 1_500_000)?;
+    put_all(poll.registry(), &mut side, &written)?;
     let all = written.len() as u64;
-    assert!(rt; side.owes_more_than(all.saturating_sub(1)));
+    let owes_all = side.owes_more_than(all.saturating_sub(1));
     let taken = side.tell(1);
-    // Its socket doesn't take so many while nothing is read.
-    assert!(rt; taken < all);
     let mut read = Vec::new(rt.alloc());
     read_slowly(
+        rt.alloc(),
         &mut poll,
-        &mut reports,
         &mut side,
         &mut far,
         written.len(),
         &mut read,
     )?;
     assert!(rt; read == written);
+    // Its socket doesn't take so many while nothing is read.
+    assert!(rt; owes_all && taken < all);
     assert_eq!(rt; taken.saturating_add(side.tell(1)), all);
     Ok(())
 }

@@ -1,9 +1,10 @@
 //! Peers whose octets come two by two, upstreams whose writes fail or take nothing for a while, and
 //! those that can't be reached.
 
-ghost use Rattle.std.specs.Prelude.{◌+◌, ◌<◌, ◌^◌};
+ghost use Rattle.std.specs.Prelude.{◌≡◌, ◌+◌, ◌<◌, ◌^◌, OnOk};
 
-use crate::loopback::{numbers, pair};
+use crate::loopback::{numbers, pair, waiting_listener};
+use crate::worlds::{PlainWorld, alone, open};
 use driver::{Next, World};
 use gateway::{Event, Output, Text};
 use mio::{Interest, Registry, Token};
@@ -182,12 +183,10 @@ fn heard_by(host: &HostRuntime, plan: Plan) -> Result<Heard, Fail> {
     Ok(hear(host.alloc(), &mut world)?)
 }
 
-/// Where writes fail by this plan, what was sent is heard, and then this end.
-fn assert_heard(rt: &impl Abort, host: &HostRuntime, plan: Plan, end: End) -> Result<(), Fail> {
-    let heard = heard_by(host, plan)?;
-    assert_eq!(rt; heard.octets.as_slice(), SENT);
+/// These octets are heard, and then this end.
+fn assert_heard(rt: &impl Abort, heard: &Heard, octets: &[u8], end: End) {
+    assert_eq!(rt; heard.octets.as_slice(), octets);
     assert_eq!(rt; heard.end, Some(end));
-    Ok(())
 }
 
 #[test]
@@ -197,7 +196,7 @@ fn a_broken_pipe_is_an_end_where_one_came(rt: HostRuntime) -> Result<(), Fail> {
             quiet,
             fault: ErrorKind::BrokenPipe,
         };
-        assert_heard(&rt, &rt, plan, End::Ended)?;
+        assert_heard(&rt, &heard_by(&rt, plan)?, SENT, End::Ended);
     }
     Ok(())
 }
@@ -209,26 +208,33 @@ fn a_reset_is_a_failure_behind_what_was_sent(rt: HostRuntime) -> Result<(), Fail
             quiet,
             fault: ErrorKind::ConnectionReset,
         };
-        assert_heard(&rt, &rt, plan, End::Failed)?;
+        assert_heard(&rt, &heard_by(&rt, plan)?, SENT, End::Failed);
     }
     Ok(())
 }
 
+/// Opens connection 1, and puts a request out to it: its other end.
+fn ask(alloc: Global, world: &mut PlainWorld<'_>, listener: &TcpListener) -> Result<TcpStream, Fail>
+    requires { world.old.failures + 1 < 2 ^ 64 }
+    ensures calls { world.new.calls ≡ world.old.calls }
+    ensures failures { OnOk result (world.new.failures ≡ world.old.failures) }
+{
+    open(world, 1, 0)?;
+    world.apply(&request(alloc)?)?;
+    let (socket, _address) = listener.accept()?;
+    Ok(socket)
+}
+
 #[test]
 fn an_upstream_that_breaks_off_has_failed(rt: HostRuntime) -> Result<(), Fail> {
-    let listener = TcpListener::bind(&rt, SocketAddr::from((Ipv4Addr::LOCALHOST, 0)))?;
+    let listener = waiting_listener(&rt)?;
     let addresses = [listener.local_addr()?];
-    let (_client, far) = pair(&rt)?;
-    let mut world = SocketWorld::new(rt.alloc(), &rt, &addresses, far)?;
-    world.apply(&Output::Open(1, 0))?;
-    world.apply(&request(rt.alloc())?)?;
-    let (mut socket, _address) = listener.accept()?;
+    let (_client, mut world) = alone(&rt, &addresses)?;
+    let mut socket = ask(rt.alloc(), &mut world, &listener)?;
     socket.write_all(SENT)?;
     // What it was sent lies unread, so that it doesn't end its connection but resets it.
     mem::drop(socket);
-    let heard = hear(rt.alloc(), &mut world)?;
-    assert_eq!(rt; heard.octets.as_slice(), SENT);
-    assert_eq!(rt; heard.end, Some(End::Failed));
+    assert_heard(&rt, &hear(rt.alloc(), &mut world)?, SENT, End::Failed);
     Ok(())
 }
 
@@ -246,26 +252,21 @@ fn what_is_behind_a_short_read_is_read(rt: HostRuntime) -> Result<(), Fail> {
         unread: Some(SENT),
     };
     let mut world = SocketWorld::new(rt.alloc(), &rt, &[], client)?;
-    let heard = hear(rt.alloc(), &mut world)?;
-    assert_eq!(rt; heard.octets.as_slice(), SENT);
-    assert_eq!(rt; heard.end, Some(End::Ended));
+    assert_heard(&rt, &hear(rt.alloc(), &mut world)?, SENT, End::Ended);
     Ok(())
 }
 
 #[test]
 fn an_upstream_without_an_address_has_failed(rt: HostRuntime) -> Result<(), Fail> {
-    let (_client, far) = pair(&rt)?;
-    let mut world = SocketWorld::new(rt.alloc(), &rt, &[], far)?;
-    world.apply(&Output::Open(1, 0))?;
-    let heard = hear(rt.alloc(), &mut world)?;
-    assert!(rt; heard.octets.is_empty());
-    assert_eq!(rt; heard.end, Some(End::Failed));
+    let (_client, mut world) = alone(&rt, &[])?;
+    open(&mut world, 1, 0)?;
+    assert_heard(&rt, &hear(rt.alloc(), &mut world)?, b"", End::Failed);
     Ok(())
 }
 
 /// Reads so many octets of a connection, while its world goes on.
 fn read_slowly(
-    world: &mut SocketWorld<'_, HostRuntime, mio::net::TcpStream>,
+    world: &mut PlainWorld<'_>,
     socket: &mut TcpStream,
     count: usize,
     read: &mut Vec<u8>,
@@ -289,20 +290,39 @@ fn read_slowly(
     Ok(())
 }
 
-#[test]
-fn an_upstream_that_reads_slowly_reads_all(rt: HostRuntime) -> Result<(), Fail> {
-    let listener = TcpListener::bind(&rt, SocketAddr::from((Ipv4Addr::LOCALHOST, 0)))?;
-    let addresses = [listener.local_addr()?];
-    let (_client, far) = pair(&rt)?;
-    let mut world = SocketWorld::new(rt.alloc(), &rt, &addresses, far)?;
-    world.apply(&Output::Open(1, 0))?;
+/// Opens connection 1, and puts these octets out to it: what its other end reads, slowly.
+fn read_behind(
+    alloc: Global,
+    world: &mut PlainWorld<'_>,
+    listener: &TcpListener,
+    octets: Vec<u8>,
+) -> Result<Vec<u8>, Fail>
+    requires calls { world.old.calls + 100000 < 2 ^ 64 }
+    requires failures { world.old.failures + 100000 < 2 ^ 64 }
+{
+    open(world, 1, 0)?;
     let (mut socket, _address) = listener.accept()?;
     socket.set_nonblocking(true)?;
-    let written = numbers(rt.alloc())?;
+    let count = octets.len();
+    world.apply(&Output::Up(1, Text::from_octets(octets)))?;
+    let mut read = Vec::new(alloc);
+    read_slowly(world, &mut socket, count, &mut read)?;
+    Ok(read)
+}
+
+#[test]
+fn an_upstream_that_reads_slowly_reads_all(rt: HostRuntime) -> Result<(), Fail> {
+    let listener = waiting_listener(&rt)?;
+    let addresses = [listener.local_addr()?];
+    let (_client, mut world) = alone(&rt, &addresses)?;
     // Its socket doesn't take so many at once.
-    world.apply(&Output::Up(1, Text::from_octets(numbers(rt.alloc())?)))?;
-    let mut read = Vec::new(rt.alloc());
-    read_slowly(&mut world, &mut socket, written.len(), &mut read)?;
+    let written = numbers(rt.alloc(), 4_000_000)?;
+    let read = read_behind(
+        rt.alloc(),
+        &mut world,
+        &listener,
+        numbers(rt.alloc(), 4_000_000)?,
+    )?;
     assert!(rt; read == written);
     Ok(())
 }

@@ -4,6 +4,7 @@ ghost use Rattle.std.specs.Prelude.{IfOk};
 ghost use Rattle.gateway.specs.Setups.{setup_of, IsServable};
 
 use crate::loopback::{pair, quiet_listener};
+use crate::worlds::{Came, PlainWorld, alone, came_next, open};
 use driver::{Next, ServeFault, ServiceEnd, World, WorldFault, serve};
 use gateway::{Config, Event, Output, Route};
 use sockets::SocketWorld;
@@ -64,7 +65,7 @@ const JOINED: &[u8] =
 /// A world of sockets in whose turns a client and an upstream take part, each with one step before each `next`.
 #[derive(Drop)]
 struct Loopback<'a> {
-    world: SocketWorld<'a, HostRuntime, mio::net::TcpStream>,
+    world: PlainWorld<'a>,
     peers: Peers,
 }
 
@@ -386,15 +387,12 @@ fn each_route_has_its_own_address(rt: HostRuntime) -> Result<(), Fail> {
     let first = quiet_listener(&rt)?;
     let second = quiet_listener(&rt)?;
     let addresses = [first.local_addr()?, second.local_addr()?];
-    let (_client, far) = pair(&rt)?;
-    let mut world = SocketWorld::new(rt.alloc(), &rt, &addresses, far)?;
-    let opened = world.apply(&Output::Open(1, 1));
-    assert_eq!(rt; opened, Ok(()));
-    assert!(rt; is_called(&second));
-    assert!(rt; first.accept().is_err());
-    let opened = world.apply(&Output::Open(2, 0));
-    assert_eq!(rt; opened, Ok(()));
-    assert!(rt; is_called(&first));
+    let (_client, mut world) = alone(&rt, &addresses)?;
+    open(&mut world, 1, 1)?;
+    let by_second = [is_called(&first), is_called(&second)];
+    open(&mut world, 2, 0)?;
+    let by_first = [is_called(&first), is_called(&second)];
+    assert_eq!(rt; [by_second, by_first], [[false, true], [true, false]]);
     Ok(())
 }
 
@@ -425,15 +423,12 @@ fn a_world_waits_until_something_comes(rt: HostRuntime) -> Result<(), Fail> {
     let upstream = quiet_listener(&rt)?;
     let addresses = [upstream.local_addr()?];
     let _crowd = crowd(&rt, addresses[0])?;
-    let (_client, far) = pair(&rt)?;
-    let mut world = SocketWorld::new(rt.alloc(), &rt, &addresses, far)?;
-    let opened = world.apply(&Output::Open(1, 0));
-    assert_eq!(rt; opened, Ok(()));
+    let (_client, mut world) = alone(&rt, &addresses)?;
+    open(&mut world, 1, 0)?;
     // The first try isn't answered. The next one, a second later, is refused, since nobody listens
     // any more: until then nothing comes.
     mem::drop(upstream);
-    let next = world.next(&[(1, 65536)]);
-    assert!(rt; matches!(next, Ok(Next::Happened(Event::UpFailed(1)))));
+    assert_eq!(rt; came_next(&mut world, &[(1, 65536)]), Came::UpFailed(1));
     Ok(())
 }
 
@@ -441,17 +436,17 @@ fn a_world_waits_until_something_comes(rt: HostRuntime) -> Result<(), Fail> {
 fn an_end_that_is_known_comes_before_the_clients_octets(rt: HostRuntime) -> Result<(), Fail> {
     let upstream = quiet_listener(&rt)?;
     let addresses = [upstream.local_addr()?];
-    let (mut client, far) = pair(&rt)?;
-    let mut world = SocketWorld::new(rt.alloc(), &rt, &addresses, far)?;
-    let opened = world.apply(&Output::Open(1, 0));
-    assert_eq!(rt; opened, Ok(()));
+    let (mut client, mut world) = alone(&rt, &addresses)?;
+    open(&mut world, 1, 0)?;
     client.write_all(REQUEST)?;
     // The connection is accepted, and ended. So a request that comes then doesn't go out on it, were it an idle one.
-    assert!(rt; is_called(&upstream));
-    let next = world.next(&[(1, 65536)]);
-    assert!(rt; matches!(next, Ok(Next::Happened(Event::UpEnd(1)))));
-    let next = world.next(&[]);
-    assert!(rt; matches!(next, Ok(Next::Happened(Event::Client(_)))));
+    let is_called = is_called(&upstream);
+    let first = came_next(&mut world, &[(1, 65536)]);
+    let second = came_next(&mut world, &[]);
+    assert_eq!(rt;
+        (is_called, first, second),
+        (true, Came::UpEnd(1), Came::Client)
+    );
     Ok(())
 }
 

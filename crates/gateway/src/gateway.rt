@@ -144,16 +144,6 @@ fn new_session(alloc: Global) -> Session
     }
 }
 
-/// Lets go of all that a session kept.
-fn clear_session(alloc: Global, session: &mut Session)
-    ensures small { (setup : Setup) → IsSmall setup session.new }
-    ensures nothing { held_in_session session.new ≡ 0 }
-    ensures no_marks { session.new.marks ≡ [] }
-{
-    // By a call: an assignment would drop the old one here, field by field.
-    mem::drop(mem::replace(session, new_session(alloc)));
-}
-
 /// A gateway for one connection of a client.
 #[derive(Drop)]
 pub struct Gateway {
@@ -434,7 +424,7 @@ impl Gateway {
     {
         self.opened = self.count_streams();
         self.partial = Vec::new(self.alloc);
-        clear_session(self.alloc, &mut self.session);
+        self.session = new_session(self.alloc);
     }
 
     /// A law of what is kept, which takes no step: no stream has more marks than octets of its DATA that wait.

@@ -6,5 +6,5 @@ use Rattle.gateway.proofs.gateway.Gateway.let_go.Goals as goal
 pub returns-clause-stays : goal.returns-clause-stays
 returns-clause-stays c =
     rw c.count_streams-self-inside.ensures
-    (ap (λ (octets : List ℕ). record (the_view c.self.inside) { partial = octets; kept = c.clear_session.new.session; opened = length c.args.self.now.kept.inbound.rows }) c.new.ensures.items
-    ∙ ap (λ (g : Standing). record g { partial = []; kept = c.clear_session.new.session; opened = length c.args.self.now.kept.inbound.rows }) c.self.view_is)
+    (ap (λ (octets : List ℕ). record (the_view c.self.inside) { partial = octets; kept = c.new_session.result; opened = length c.args.self.now.kept.inbound.rows }) c.new.ensures.items
+    ∙ ap (λ (g : Standing). record g { partial = []; kept = c.new_session.result; opened = length c.args.self.now.kept.inbound.rows }) c.self.view_is)

@@ -59,6 +59,8 @@ pub record IsConfig (entries : Members) (config : Config) : Type 0 where
   pub max_body : IsMost (number_at (codes "max_body") entries) config.max_body
   pub max_response : IsMost (number_at (codes "max_response") entries) config.max_response
   pub keep : IsKeep (bool_at (codes "keep") entries) config.keep
+  -- no key says yet how many connections may be idle
+  pub most_idle : config.most_idle ≡ 8
   pub tables : List Members
   pub are_tables : AreTables (array_at (codes "route") entries) tables
   pub routes : AreRoutes tables config.routes.items

@@ -93,6 +93,7 @@ fn read_table(alloc: Global, table: &Table) -> Result<Config, ConfigFault>
         max_body,
         max_response,
         keep,
+        most_idle: 8,
     })
 }
 

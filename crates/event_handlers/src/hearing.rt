@@ -10,6 +10,7 @@ ghost use Rattle.event_handlers.specs.Comings.{ComesFrom};
 ghost use Rattle.event_handlers.specs.Inputs.Input.{OfEvent};
 ghost use Rattle.event_handlers.specs.Resting.{now_of, IsSettled, RestsSo};
 ghost use Rattle.event_handlers.specs.Stopping.{IfOver};
+ghost use Rattle.event_handlers.specs.exchanges.Finishing.{IsKeeping};
 
 use crate::exchanges;
 use crate::exchanges::stream_of;
@@ -29,19 +30,20 @@ fn hear_to_rest(
     k: u32,
     octets: &[u8],
     keep: bool,
+    most_idle: u8,
     out: &mut Outputs,
 ) -> Result<Onward, Halt>
     requires admitted { admits session.old (Up k octets.now) ≡ true }
     requires settled { IsSettled session.old }
-    requires reached { (setup : Setup) × (keep ≡ setup.keep) × Reached setup session.old balanced }
-    ensures comes { IfOk result (λ went. (setup : Setup) → keep ≡ setup.keep
+    requires reached { (setup : Setup) × IsKeeping keep most_idle setup × Reached setup session.old balanced }
+    ensures comes { IfOk result (λ went. (setup : Setup) → IsKeeping keep most_idle setup
         → ComesFrom setup session.old balanced out.old (OfEvent (Up k octets.now) ∷ []) balanced (now_of went session.new) out.new) }
     ensures rests { IfOk result (λ went. RestsSo went session.new) }
-    ensures over { IfErr result (λ stop. IfOver stop ((setup : Setup) → keep ≡ setup.keep
+    ensures over { IfErr result (λ stop. IfOver stop ((setup : Setup) → IsKeeping keep most_idle setup
         → ComesFrom setup session.old balanced out.old (OfEvent (Up k octets.now) ∷ []) balanced None out.new)) }
 {
     let stream = stream_of(session, k);
-    let back = exchanges::hear(alloc, session, k, octets, keep, out)?;
+    let back = exchanges::hear(alloc, session, k, octets, keep, most_idle, out)?;
     return_dropped(session, back, out)?;
     rest_behind(alloc, session, stream, out)
 }
@@ -54,16 +56,17 @@ pub fn hear(
     k: u32,
     octets: &[u8],
     keep: bool,
+    most_idle: u8,
     out: &mut Outputs,
 ) -> Result<Onward, AllocError>
     requires admitted { admits session.old (Up k octets.now) ≡ true }
     requires settled { IsSettled session.old }
-    requires reached { (setup : Setup) × (keep ≡ setup.keep) × Reached setup session.old balanced }
-    ensures comes { IfOk result (λ went. (setup : Setup) → keep ≡ setup.keep
+    requires reached { (setup : Setup) × IsKeeping keep most_idle setup × Reached setup session.old balanced }
+    ensures comes { IfOk result (λ went. (setup : Setup) → IsKeeping keep most_idle setup
         → ComesFrom setup session.old balanced out.old (OfEvent (Up k octets.now) ∷ []) balanced (now_of went session.new) out.new) }
     ensures rests { IfOk result (λ went. RestsSo went session.new) }
 {
-    conclude(hear_to_rest(alloc, session, k, octets, keep, out))
+    conclude(hear_to_rest(alloc, session, k, octets, keep, most_idle, out))
 }
 
 /// The end of an open upstream's connection, to where the gateway rests. An `Err` says that memory

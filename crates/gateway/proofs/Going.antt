@@ -122,7 +122,7 @@ module _ (setup : Setup) (old : Standing) (log : List Step) (run : List Move) (s
     segment = c.moves;
     step_is = step_by setup log run stands.answered event inputs None q events c;
     stands = record {
-      serves = record { servable = serves.servable; routes = serves.routes; max_body = serves.max_body; passing = serves.passing; keep = serves.keep };
+      serves = record { servable = serves.servable; routes = serves.routes; max_body = serves.max_body; passing = serves.passing; keep = serves.keep; most_idle = serves.most_idle };
       answered = answered_more setup log run stands.answered event inputs None q admitted events c (rests_behind setup log run stands.answered (c.moves ++ run) None c.stands (λ kept is. absurd (let no : None ≡ Some kept = is in cc))) read;
       fits = fits_more setup log run stands.answered event inputs None q stands.fits admitted alone c;
       is_in = c.stands;
@@ -149,8 +149,8 @@ stays_open phase.Closed e = e
 stays_open phase.Dead e = e
 
 -- terms that are kept serve as before
-serves_on : (setup : Setup) (g g' : Standing) → Serves setup g → g'.routes ≡ g.routes → g'.max_body ≡ g.max_body → g'.passing ≡ g.passing → g'.keep ≡ g.keep → Serves setup g'
-serves_on setup g g' s routes body passing keep = record { servable = s.servable; routes = s.routes ∙ sym routes; max_body = s.max_body ∙ sym body; passing = subst (IsPassedBy setup) (sym passing) s.passing; keep = keep ∙ s.keep }
+serves_on : (setup : Setup) (g g' : Standing) → Serves setup g → g'.routes ≡ g.routes → g'.max_body ≡ g.max_body → g'.passing ≡ g.passing → g'.keep ≡ g.keep → g'.most_idle ≡ g.most_idle → Serves setup g'
+serves_on setup g g' s routes body passing keep most = record { servable = s.servable; routes = s.routes ∙ sym routes; max_body = s.max_body ∙ sym body; passing = subst (IsPassedBy setup) (sym passing) s.passing; keep = keep ∙ s.keep; most_idle = most ∙ s.most_idle }
 
 module _ (setup : Setup) (old mid : Standing) (p : List Output) (log : List Step) (run : List Move) (stands : Stands setup old log run) (greets : Greets old mid p) (is_open_yet : is_open old.phase ≡ true) where
   o : IsOpen setup old.phase old.partial old.kept (client_in log) run
@@ -163,7 +163,7 @@ module _ (setup : Setup) (old mid : Standing) (p : List Output) (log : List Step
   partial_is = ap (λ (g : Standing). g.partial) greets.after
 
   pub serves_mid : Serves setup mid
-  serves_mid = serves_on setup old mid stands.serves (ap (λ (g : Standing). g.routes) greets.after) (ap (λ (g : Standing). g.max_body) greets.after) (ap (λ (g : Standing). g.passing) greets.after) (ap (λ (g : Standing). g.keep) greets.after)
+  serves_mid = serves_on setup old mid stands.serves (ap (λ (g : Standing). g.routes) greets.after) (ap (λ (g : Standing). g.max_body) greets.after) (ap (λ (g : Standing). g.passing) greets.after) (ap (λ (g : Standing). g.keep) greets.after) (ap (λ (g : Standing). g.most_idle) greets.after)
 
   mid_open : is_open mid.phase ≡ true
   mid_open = ap is_open phase_is ∙ stays_open old.phase is_open_yet
@@ -180,7 +180,7 @@ module _ (setup : Setup) (old mid : Standing) (p : List Output) (log : List Step
 
   module _ (event : Event) (admitted : MayCome setup run event) (hap : Standing) (q : List Output) (terms : KeepsTerms mid hap) where
     serves_hap : Serves setup hap
-    serves_hap = serves_on setup mid hap serves_mid terms.routes terms.max_body terms.passing terms.keep
+    serves_hap = serves_on setup mid hap serves_mid terms.routes terms.max_body terms.passing terms.keep terms.most_idle
 
     -- ---- an event that isn't octets of the client
 

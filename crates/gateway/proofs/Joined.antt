@@ -94,7 +94,7 @@ module _ (serves : Setup → Type 0) (a : View) (o p : List Output) (text rest m
 
 -- by what is served follows from what stays
 pub serves_on : (old mid : Standing) → KeepsTerms old mid → (setup : Setup) → Serves setup old → Serves setup mid
-serves_on old mid terms setup s = record { servable = s.servable; routes = s.routes ∙ sym terms.routes; max_body = s.max_body ∙ sym terms.max_body; passing = subst (IsPassedBy setup) (sym terms.passing) s.passing; keep = terms.keep ∙ s.keep }
+serves_on old mid terms setup s = record { servable = s.servable; routes = s.routes ∙ sym terms.routes; max_body = s.max_body ∙ sym terms.max_body; passing = subst (IsPassedBy setup) (sym terms.passing) s.passing; keep = terms.keep ∙ s.keep; most_idle = terms.most_idle ∙ s.most_idle }
 
 serves_from : (serves fewer : Setup → Type 0) → ((setup : Setup) → fewer setup → serves setup) → (a : View) (o : List Output) (text rest : List ℕ) (now : Option View) (o' : List Output) → Takes serves a o text rest now o' → Takes fewer a o text rest now o'
 serves_from serves fewer only a o text rest now o' t = record { frames = t.frames; reading = t.reading; last = t.last; broken = t.broken; comes = λ setup s. t.comes setup (only setup s); leaves = t.leaves }

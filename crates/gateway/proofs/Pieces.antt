@@ -139,7 +139,7 @@ module _ (old new : Standing) (waited : List ℕ) (o o' : List Output) where
   reads_waited : (went : Onward) (behind : List ℕ) → ReadsOn (record old { partial = waited }) new went o o' behind → ReadsOn old new went o o' behind
   reads_waited went behind r = record {
     rest = r.rest;
-    takes = takes_fewer (λ setup. Serves setup (record old { partial = waited })) (λ setup. Serves setup old) (λ setup s. record { servable = s.servable; routes = s.routes; max_body = s.max_body; passing = s.passing; keep = s.keep }) old.kept o behind r.rest (now_of went new.kept) o' r.takes;
+    takes = takes_fewer (λ setup. Serves setup (record old { partial = waited })) (λ setup. Serves setup old) (λ setup s. record { servable = s.servable; routes = s.routes; max_body = s.max_body; passing = s.passing; keep = s.keep; most_idle = s.most_idle }) old.kept o behind r.rest (now_of went new.kept) o' r.takes;
     keeps = keeps_waited went r.rest r.keeps;
   }
 

@@ -130,7 +130,7 @@ module _ (setup : Setup) (g : Standing) (step : Step) (log : List Step) (run : L
 pub over_stands : (setup : Setup) (g h : Standing) (log : List Step) (run : List Move) → g.phase ≡ phase.Closed → h ≡ record g { partial = []; kept = h.kept } → Stands setup g log run → Stands setup h log run
 over_stands setup g h log run closed is stands =
     subst (λ x. Stands setup x log run) (sym is) (record {
-      serves = record { servable = stands.serves.servable; routes = stands.serves.routes; max_body = stands.serves.max_body; passing = stands.serves.passing; keep = stands.serves.keep };
+      serves = record { servable = stands.serves.servable; routes = stands.serves.routes; max_body = stands.serves.max_body; passing = stands.serves.passing; keep = stands.serves.keep; most_idle = stands.serves.most_idle };
       answered = stands.answered;
       fits = stands.fits;
       is_in = subst (λ p. Rattle.gateway.specs.Stands.IsIn p setup [] h.kept (client_in log) run) (sym closed) (subst (λ p. Rattle.gateway.specs.Stands.IsIn p setup g.partial g.kept (client_in log) run) closed stands.is_in);

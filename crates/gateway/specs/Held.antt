@@ -17,13 +17,13 @@ record_bound setup = setup.max_body + setup.max_response + 400000
 abbrev pub held_bound : Setup → ℕ
 held_bound setup = 200000 + 100 * record_bound setup
 
--- It holds no more: beside its streams, for each of them, of which there are at most 100, and in all. Beside connections for these at most 8 are open, which
--- are idle. Of no stream there are more marks of DATA that waits than the connection's first receiving window has octets.
+-- It holds no more: beside its streams, for each of them, of which there are at most 100, and in all. Beside connections for these at most `most_idle` are open,
+-- which are idle. Of no stream there are more marks of DATA that waits than the connection's first receiving window has octets.
 pub record IsHeldWithin (setup : Setup) (g : Standing) : Type 0 where
   pub beside : length g.partial + session.held_beside g.kept ≤ 200000
   pub few_responses : length g.kept.offers.kept ≤ 100
   pub few_requests : length g.kept.upstreams.held ≤ 100
-  pub few_connections : length g.kept.upstreams.live ≤ 108
+  pub few_connections : length g.kept.upstreams.live ≤ 100 + setup.most_idle
   pub each : (stream : ℕ) → session.held_for stream g.kept ≤ record_bound setup
   pub all : held_in g ≤ held_bound setup
   pub few_marks : (stream : ℕ) → length (queue_of stream g.kept.marks) ≤ first_window

@@ -75,6 +75,7 @@ pub record KeepsTerms (old new : Standing) : Type 0 where
   pub max_body : new.max_body ≡ old.max_body
   pub passing : new.passing ≡ old.passing
   pub keep : new.keep ≡ old.keep
+  pub most_idle : new.most_idle ≡ old.most_idle
 
 -- Where the connection goes on, something may come in.
 abbrev pub IsSettledIf : Onward → View → Type 0

@@ -32,13 +32,15 @@ IsStart text start.Wrong = IsNoPreface text
 
 -- ---- what a gateway is seen as
 
--- By what requests are judged, how bodies are passed on, and whether connections to upstreams are kept; how far the connection is; the octets of the client
+-- By what requests are judged, how bodies are passed on, and whether connections to upstreams are kept, and how many of
+-- them idle; how far the connection is; the octets of the client
 -- that aren't read; what is kept; and how many streams the client had opened when that was let go of.
 pub record Standing : Type 0 where
   pub routes : List Route
   pub max_body : ℕ
   pub passing : ResponsePassing
   pub keep : Bool
+  pub most_idle : ℕ
   pub phase : Phase
   pub partial : List ℕ
   pub kept : View
@@ -51,6 +53,7 @@ pub record Serves (setup : Setup) (g : Standing) : Type 0 where
   pub max_body : setup.max_body ≡ g.max_body
   pub passing : IsPassedBy setup g.passing
   pub keep : g.keep ≡ setup.keep
+  pub most_idle : g.most_idle ≡ setup.most_idle
 
 -- whether something may come in: the client wasn't closed, and memory wasn't refused
 abbrev pub is_open : Phase → Bool

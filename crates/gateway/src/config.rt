@@ -56,14 +56,17 @@ pub struct Config {
     pub max_response: u64,
     /// Whether upstream connections are kept for further requests (RFC 9112, section 9.3).
     pub keep: bool,
+    /// The most of them that are idle at once.
+    pub most_idle: u8,
 }
 
 impl Config {
     /// What the configuration of these routes is where it says nothing else: blocks are written
     /// without the dynamic table, bodies are passed on whole, those of requests and of responses
-    /// have at most 1,048,576 octets, and no upstream connection is kept.
+    /// have at most 1,048,576 octets, and no upstream connection is kept. Where they are, eight may
+    /// be idle.
     pub fn new(routes: Vec<Route>) -> Config
-        ensures { result ≡ record { routes = routes; policy = Plain; passing = Whole; max_body = 1048576; max_response = 1048576; keep = false } }
+        ensures { result ≡ record { routes = routes; policy = Plain; passing = Whole; max_body = 1048576; max_response = 1048576; keep = false; most_idle = 8 } }
     {
         Config {
             routes,
@@ -72,6 +75,7 @@ impl Config {
             max_body: 1_048_576,
             max_response: 1_048_576,
             keep: false,
+            most_idle: 8,
         }
     }
 

@@ -152,6 +152,7 @@ pub struct Gateway {
     max_body: u64,
     passing: ResponsePassing,
     keep: bool,
+    most_idle: u8,
     phase: Phase,
     partial: Vec<u8>,
     session: Session,
@@ -171,6 +172,7 @@ impl Model for Gateway {
       max_body = max_body;
       passing = passing;
       keep = keep;
+      most_idle = most_idle;
       phase = phase;
       partial = partial;
       session = session;
@@ -180,6 +182,7 @@ impl Model for Gateway {
       max_body = max_body;
       passing = passing;
       keep = keep;
+      most_idle = most_idle;
       phase = phase;
       partial = partial.items;
       kept = session;
@@ -202,6 +205,7 @@ impl Gateway {
             max_body: config.max_body,
             passing: config.passing_on(),
             keep: config.keep,
+            most_idle: config.most_idle,
             phase: Phase::New,
             partial: Vec::new(alloc),
             session: Session {
@@ -493,6 +497,7 @@ impl Gateway {
     {
         let alloc = self.alloc;
         let keep = self.keep;
+        let most_idle = self.most_idle;
         let session = &mut self.session;
         match event {
             Event::Client(piece) => self.take_piece(piece, out),
@@ -501,7 +506,7 @@ impl Gateway {
                 Ok(Onward::Over)
             }
             Event::ClientTook(count) => client_took(alloc, session, *count, out),
-            Event::Up(k, octets) => hear(alloc, session, *k, octets, keep, out),
+            Event::Up(k, octets) => hear(alloc, session, *k, octets, keep, most_idle, out),
             Event::UpEnd(k) => end(alloc, session, *k, out),
             Event::UpFailed(k) => fail(alloc, session, *k, out),
             Event::UpTook(k, count) => up_took(alloc, session, *k, *count, out),

@@ -26,7 +26,7 @@ use Rattle.model.specs.Available.{items_on}
 
 -- one route for every authority and path
 abbrev pub setup : Setup
-setup = record { routes = record { authority = []; path = codes "/" } ∷ []; policy = Plain; passing = Whole; max_body = 1000; max_response = 1000; keep = false }
+setup = record { routes = record { authority = []; path = codes "/" } ∷ []; policy = Plain; passing = Whole; max_body = 1000; max_response = 1000; keep = false; most_idle = 8 }
 
 abbrev pub settings : Frame
 settings = record { kind = 4; flags = 0; id = 0; payload = [] }

@@ -1,7 +1,6 @@
 -- Upstream connections that are kept for further requests (RFC 9112, section 9.3).
 use Rattle.std.specs.Prelude.{◌≡◌, ℕ, ◌<◌, ◌≤◌, Bool, true, false, ◌==◌, List, [], ◌∷◌, length, map, codes, bytes_eq, Option}
 use Rattle.std.specs.List.{list_any}
-use Rattle.model.specs.Limits.{most_idle}
 use Rattle.model.specs.Octets.{IsStrictFront}
 use Rattle.model.specs.Messages.{Request}
 use Rattle.model.specs.Http1.{H1Request}
@@ -82,7 +81,7 @@ AreIdle known t (k ∷ ks) = IsIdle known t k × AreIdle known t ks
 
 -- no more connections than that are idle
 abbrev pub FewAreIdle : Known → List Entry → Type 0
-FewAreIdle known t = (ks : List ℕ) → AreDistinct ks → AreIdle known t ks → length ks ≤ most_idle
+FewAreIdle known t = (ks : List ℕ) → AreDistinct ks → AreIdle known t ks → length ks ≤ known.setup.most_idle
 
 -- the connection of the last thing that came in, or 0
 abbrev pub last_upstream : List Entry → ℕ
@@ -98,4 +97,4 @@ pub record IsOneTooMany (known : Known) (t : List Entry) (k : ℕ) : Type 0 wher
   pub others : List ℕ
   pub distinct : AreDistinct (k ∷ others)
   pub are_idle : AreIdle known t others
-  pub many : most_idle ≤ length others
+  pub many : known.setup.most_idle ≤ length others

@@ -67,7 +67,3 @@ most_fields = 100
 -- the most interim heads of a response
 abbrev pub most_interims : ℕ
 most_interims = 8
-
--- the most connections that are idle
-abbrev pub most_idle : ℕ
-most_idle = 8

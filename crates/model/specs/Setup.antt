@@ -24,6 +24,8 @@ pub record Setup : Type 0 where
   pub max_response : ℕ
   -- upstream connections are kept for further requests
   pub keep : Bool
+  -- the most that are idle then
+  pub most_idle : ℕ
 
 -- The authority is the route's, in letters of either case (RFC 9110, section 4.2.3).
 abbrev pub IsForAuthority : Route → List ℕ → Type 0

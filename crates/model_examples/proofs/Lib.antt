@@ -27,5 +27,6 @@ pub mod KeepAnswers
 pub mod KeepRefusals
 pub mod KeepMeets
 pub mod KeepPool
+pub mod IdleExamples
 pub mod KeepRequests
 pub mod KeepWindows

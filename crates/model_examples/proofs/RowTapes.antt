@@ -14,7 +14,7 @@ use Rattle.model.specs.Known.{Known}
 
 -- one route for every authority and path, and bodies of a megabyte
 abbrev pub whole : Setup
-whole = record { routes = record { authority = []; path = codes "/" } ∷ []; policy = Plain; passing = Whole; max_body = 1048576; max_response = 1048576; keep = false }
+whole = record { routes = record { authority = []; path = codes "/" } ∷ []; policy = Plain; passing = Whole; max_body = 1048576; max_response = 1048576; keep = false; most_idle = 8 }
 
 abbrev pub streaming : Setup
 streaming = record whole { passing = Streaming }

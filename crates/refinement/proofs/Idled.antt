@@ -8,7 +8,6 @@ use Rattle.model.specs.Setup.{Setup}
 use Rattle.model.specs.Tapes.Entry.{Happened}
 use Rattle.model.specs.Openings.{Opened, given}
 use Rattle.model.specs.Courses.{upstream_of}
-use Rattle.model.specs.Limits.{most_idle}
 use Rattle.theory_errors.specs.Book.{Book, Ledger, ledger_after, summary_in}
 use Rattle.theory_receive_windows.specs.Policy.{Gates, may_come}
 use Rattle.theory_receive_windows.specs.State as theory_receive_windows
@@ -197,21 +196,21 @@ module _ (setup : Setup) (kept : View) (rest : IsAtRest kept) (run : List Move) 
 
   -- this is heard of it
   abbrev pub heard_view : Heard → View
-  heard_view heard = record kept { upstreams = record kept.upstreams { live = heard_at k heard kept.upstreams.live } }
+  heard_view heard = record kept { upstreams = record kept.upstreams { live = heard_at setup.most_idle k heard kept.upstreams.live } }
 
   requests_heard : (event : Event) (heard : Heard) → upstream_of event ≡ k → idled event ≡ theory_requests.Move.Hears event heard → (told : Told) → AreServed told kept.upstreams.held
-      → theory_requests.after setup told (upstreams.with_due kept.upstreams Nothing) (idled event) ≡ upstreams.with_due (record kept.upstreams { live = heard_at k heard kept.upstreams.live }) Nothing
+      → theory_requests.after setup told (upstreams.with_due kept.upstreams Nothing) (idled event) ≡ upstreams.with_due (record kept.upstreams { live = heard_at setup.most_idle k heard kept.upstreams.live }) Nothing
   requests_heard event heard of is told served =
       ap (theory_requests.after setup told (upstreams.with_due kept.upstreams Nothing)) is
-      ∙ ap (λ (hs : List Held). record { held = hs; live = lines_heard (upstream_of event) heard (lives kept.upstreams.live); due = Nothing; count = kept.upstreams.count }) (kept_served told kept.upstreams.held served)
-      ∙ ap (λ n. record { held = kept.upstreams.held; live = lines_heard n heard (lives kept.upstreams.live); due = Nothing; count = kept.upstreams.count }) of
-      ∙ ap (λ (ls : List Line). record { held = kept.upstreams.held; live = ls; due = Nothing; count = kept.upstreams.count }) (sym (lives_heard k heard kept.upstreams.live))
+      ∙ ap (λ (hs : List Held). record { held = hs; live = lines_heard setup.most_idle (upstream_of event) heard (lives kept.upstreams.live); due = Nothing; count = kept.upstreams.count }) (kept_served told kept.upstreams.held served)
+      ∙ ap (λ n. record { held = kept.upstreams.held; live = lines_heard setup.most_idle n heard (lives kept.upstreams.live); due = Nothing; count = kept.upstreams.count }) of
+      ∙ ap (λ (ls : List Line). record { held = kept.upstreams.held; live = ls; due = Nothing; count = kept.upstreams.count }) (sym (lives_heard setup.most_idle k heard kept.upstreams.live))
 
   -- They finish it: it is done with.
   pub finish : (event : Event) → upstream_of event ≡ k → MayBreakOff event → idled event ≡ theory_requests.Move.Hears event Finished → ((gates : Gates) (rooms : theory_receive_windows.State) → gates.is_up k ≡ true → may_come gates rooms event ≡ true)
       → (outputs : List Output) → Course setup run s outputs (Happened event) (heard_view Finished) balanced outputs
   finish event of may_break is comes =
-      performs event of may_break comes (record kept.upstreams { live = heard_at k Finished kept.upstreams.live }) (requests_heard event Finished of is)
+      performs event of may_break comes (record kept.upstreams { live = heard_at setup.most_idle k Finished kept.upstreams.live }) (requests_heard event Finished of is)
       (λ later are. heard_of_marked setup later kept.upstreams.live k Done not_pending not_idle are) counted
     where
       not_pending : Done ≡ Pending → ⊥
@@ -220,7 +219,7 @@ module _ (setup : Setup) (kept : View) (rest : IsAtRest kept) (run : List Move) 
       not_idle : Done ≡ Idle → (x : Connection) → find number_of k kept.upstreams.live ≡ Some x → octets_of x.answer ≡ 0
       not_idle e x there = absurd (cc)
 
-      counted : (j : ℕ) (x : Connection) → find number_of j (heard_at k Finished kept.upstreams.live) ≡ Some x → IsCounted kept.upstreams.live j x
+      counted : (j : ℕ) (x : Connection) → find number_of j (heard_at setup.most_idle k Finished kept.upstreams.live) ≡ Some x → IsCounted kept.upstreams.live j x
       counted j x is =
           let from = found_from (marked_at k Done) (λ y. refl) kept.upstreams.live j x is in
           record { before = from.before; there = from.there; out = ap (λ (y : Connection). y.out) from.is; took = ap (λ (y : Connection). y.took) from.is }
@@ -229,7 +228,7 @@ module _ (setup : Setup) (kept : View) (rest : IsAtRest kept) (run : List Move) 
   pub stay : (outputs : List Output) → Course setup run s outputs (Happened (Up k [])) kept balanced outputs
   stay outputs =
       performs (Up k []) refl tt comes kept.upstreams
-      (λ told served. requests_heard (Up k []) Keepable refl refl told served ∙ ap (λ (cs : List Connection). upstreams.with_due (record kept.upstreams { live = cs }) Nothing) (idle_stays k (suc s.requests.count) kept.upstreams.live c below few found is_idle))
+      (λ told served. requests_heard (Up k []) Keepable refl refl told served ∙ ap (λ (cs : List Connection). upstreams.with_due (record kept.upstreams { live = cs }) Nothing) (idle_stays setup.most_idle k (suc s.requests.count) kept.upstreams.live c below few found is_idle))
       (λ later are. are) (λ j x is. record { before = x; there = is; out = refl; took = refl }) outputs
     where
       comes : (gates : Gates) (rooms : theory_receive_windows.State) → gates.is_up k ≡ true → may_come gates rooms (Up k []) ≡ true
@@ -238,8 +237,8 @@ module _ (setup : Setup) (kept : View) (rest : IsAtRest kept) (run : List Move) 
       below : AreBelow (suc s.requests.count) kept.upstreams.live
       below = falling_below (suc s.requests.count) kept.upstreams.live (subst (AreFalling (suc s.requests.count)) lives_are (numbers_fall setup run s leads.stands))
 
-      few : idle_count kept.upstreams.live ≤ most_idle
-      few = subst (λ (ls : List Line). length (lines.idle_ones ls) ≤ most_idle) lives_are (stands_here setup run s leads.stands leads.so).keeps.few
+      few : idle_count kept.upstreams.live ≤ setup.most_idle
+      few = subst (λ (ls : List Line). length (lines.idle_ones ls) ≤ setup.most_idle) lives_are (stands_here setup run s leads.stands leads.so).keeps.few
 
   -- ---- its failure
 

@@ -13,7 +13,6 @@ use Rattle.model.specs.Available.{heard_by}
 use Rattle.model.specs.Known.{Known}
 use Rattle.model.specs.Courses.{upstream_of}
 use Rattle.model.specs.Idle.{is_asked_for_head, IsIdle}
-use Rattle.model.specs.Limits.{most_idle}
 use Rattle.model.proofs.PastLaws.{complete_past}
 use Rattle.theory_errors.specs.Rule.{AreKnown}
 use Rattle.h1_reader.specs.Parts.{ends_with}
@@ -125,19 +124,19 @@ marked_so k top a (c ∷ cs) below so = elim (eqb_tells c.live.k k) [
 ]
 
 -- Where few are idle, no octets leave an idle one as it is.
-pub idle_stays : (k top : ℕ) (cs : List Connection) (c : Connection) → AreBelow top cs → idle_count cs ≤ most_idle → lines.find number_of k cs ≡ Some c → c.live.answer ≡ Idle → heard_at k Keepable cs ≡ cs
-idle_stays k top cs c below few found is =
+pub idle_stays : (most k top : ℕ) (cs : List Connection) (c : Connection) → AreBelow top cs → idle_count cs ≤ most → lines.find number_of k cs ≡ Some c → c.live.answer ≡ Idle → heard_at most k Keepable cs ≡ cs
+idle_stays most k top cs c below few found is =
     ap (λ b. map (marked_at k (if b then Idle else Done)) cs) room
     ∙ marked_so k top Idle cs below (λ x there. let same : ◌≡◌ {A = Option Connection} (Some x) (Some c) = sym there ∙ found in let this : x ≡ c = cc in ap (λ (y : Connection). y.live.answer) this ∙ is)
   where
     one : is_idle_one (lines.find number_of k cs) ≡ true
     one = ap is_idle_one found ∙ ap lines.is_idle is
 
-    room : nat_lt (idle_beside k (lives cs)) most_idle ≡ true
+    room : nat_lt (idle_beside k (lives cs)) most ≡ true
     room =
         let all : idle_count cs ≡ idle_beside k (lives cs) + weight (is_idle_one (lines.find number_of k cs)) = all_counted k top cs below in
         let some : weight (is_idle_one (lines.find number_of k cs)) ≡ 1 = ap weight one in
-        lt-ltb (idle_beside k (lives cs)) most_idle (omega (arith, all, some, few))
+        lt-ltb (idle_beside k (lives cs)) most (omega (arith, all, some, few))
 
 -- Any, or its end, finish it; and once it is closed nothing is left of that.
 pub finished_closed : (k : ℕ) (progress : Answer) (cs : List Connection) → without number_of k (map (marked_at k progress) cs) ≡ without number_of k cs

@@ -36,8 +36,8 @@ lives_marked k progress [] = refl
 lives_marked k progress (c ∷ cs) = ap (λ ls. with_answer k progress c.live ∷ ls) (lives_marked k progress cs)
 
 -- and so is what was heard of it
-pub lives_heard : (k : ℕ) (heard : Heard) (cs : List Connection) → lives (heard_at k heard cs) ≡ lines_heard k heard (lives cs)
-lives_heard k heard cs = lives_marked k (answer_by (idle_beside k (lives cs)) heard) cs
+pub lives_heard : (most k : ℕ) (heard : Heard) (cs : List Connection) → lives (heard_at most k heard cs) ≡ lines_heard most k heard (lives cs)
+lives_heard most k heard cs = lives_marked k (answer_by most (idle_beside k (lives cs)) heard) cs
 
 -- one is given to a stream
 pub lives_given : (k stream : ℕ) (answer : Answer) (cs : List Connection) → lives (map (given_at k stream answer) cs) ≡ lines_given k stream (lives cs)

@@ -139,7 +139,7 @@ falling_used (ToUse k stream text stage) top ls fall = falling_given k stream to
 falling_used (ToSend k text) top ls fall = fall
 
 -- they fall behind each move, however requests are passed on
-fall_behind : (setup : Setup) (before behind : Told) (s : State) → AreFalling (suc s.count) s.live → (m : Move) → MayMove setup before behind s m → AreFalling (suc (count_after s.count m)) (live_after s.live s.due m)
+fall_behind : (setup : Setup) (before behind : Told) (s : State) → AreFalling (suc s.count) s.live → (m : Move) → MayMove setup before behind s m → AreFalling (suc (count_after s.count m)) (live_after setup s.live s.due m)
 fall_behind setup before behind s fall (Takes noted) may = fall
 fall_behind setup before behind s fall (Begins noted head ended route text stage) may = fall
 fall_behind setup before behind s fall (Gathers noted item route text old body written stage) may = fall
@@ -147,7 +147,7 @@ fall_behind setup before behind s fall (Passes noted item k old written stage) m
 fall_behind setup before behind s fall (Drops noted item) may = fall
 fall_behind setup before behind s fall (Breaks breach) may = fall
 fall_behind setup before behind s fall (Notes event) may = fall
-fall_behind setup before behind s fall (Hears event heard) may = falling_answered (upstream_of event) (answer_by (idle_beside (upstream_of event) s.live) heard) (suc s.count) s.live fall
+fall_behind setup before behind s fall (Hears event heard) may = falling_answered (upstream_of event) (answer_by setup.most_idle (idle_beside (upstream_of event) s.live) heard) (suc s.count) s.live fall
 fall_behind setup before behind s fall (Fails k) may = falling_without k (suc s.count) s.live fall
 fall_behind setup before behind s fall (Sends noted) may = fall
 fall_behind setup before behind s fall (Acts (Open k route)) may = (let next = may.next in omega (arith, next), subst (λ n. AreFalling n s.live) (sym may.next) fall)

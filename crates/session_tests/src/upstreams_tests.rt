@@ -215,8 +215,8 @@ fn octets_are_put_out_and_taken(rt: HostRuntime) -> Result<(), Fail> {
 fn a_response_becomes_whole(rt: HostRuntime) -> Result<(), Fail> {
     let mut upstreams = Upstreams::new(rt.alloc());
     let (first, second) = open_two(&mut upstreams, 5, 7)?;
-    upstreams.mark_heard(first, ResponseStage::Finished);
-    upstreams.mark_heard(second, ResponseStage::Partly);
+    upstreams.mark_heard(first, ResponseStage::Finished, 8);
+    upstreams.mark_heard(second, ResponseStage::Partly, 8);
     assert_eq!(rt; found(&upstreams, first), Some((1, 5, Progress::Done, 0)));
     assert_eq!(rt;
         found(&upstreams, second),
@@ -229,7 +229,7 @@ fn a_response_becomes_whole(rt: HostRuntime) -> Result<(), Fail> {
 fn an_idle_connection_is_given_to_another_stream(rt: HostRuntime) -> Result<(), Fail> {
     let mut upstreams = Upstreams::new(rt.alloc());
     let (first, _) = open_two(&mut upstreams, 5, 7)?;
-    upstreams.mark_heard(first, ResponseStage::Keepable);
+    upstreams.mark_heard(first, ResponseStage::Keepable, 8);
     assert_eq!(rt; found(&upstreams, first), Some((1, 5, Progress::Idle, 0)));
     assert_eq!(rt; found_of_stream(&upstreams, 5), None);
     assert_eq!(rt;
@@ -251,7 +251,7 @@ fn what_was_put_out_stays_counted_behind_a_kept_connection(rt: HostRuntime) -> R
     let k = upstreams.open(5, 4, false, ResponsePassing::Streaming, None)?;
     assert!(rt; upstreams.has_room(k, 10));
     upstreams.put(k, 10);
-    upstreams.mark_heard(k, ResponseStage::Keepable);
+    upstreams.mark_heard(k, ResponseStage::Keepable, 8);
     upstreams.give(k, 9, false, ResponsePassing::Streaming, None)?;
     assert_eq!(rt; found(&upstreams, k), Some((1, 9, Progress::Pending, 10)));
     Ok(())
@@ -282,7 +282,7 @@ fn a_ninth_connection_is_not_kept(rt: HostRuntime) -> Result<(), Fail> {
     let mut upstreams = Upstreams::new(rt.alloc());
     open_nine(&mut upstreams)?;
     for k in 1..10 {
-        upstreams.mark_heard(10 - k, ResponseStage::Keepable);
+        upstreams.mark_heard(10 - k, ResponseStage::Keepable, 8);
     }
     assert_eq!(rt; found(&upstreams, 1), Some((1, 5, Progress::Done, 0)));
     assert_eq!(rt;
@@ -290,7 +290,7 @@ fn a_ninth_connection_is_not_kept(rt: HostRuntime) -> Result<(), Fail> {
         (Some(2), Some(4))
     );
     upstreams.close(9);
-    upstreams.mark_heard(1, ResponseStage::Keepable);
+    upstreams.mark_heard(1, ResponseStage::Keepable, 8);
     assert_eq!(rt; upstreams.least_idle(7), Some(1));
     Ok(())
 }
@@ -320,7 +320,7 @@ fn a_request_goes_out_on_an_idle_connection_of_its_route(rt: HostRuntime) -> Res
     assert!(rt; head.length().is_none());
     let mut upstreams = Upstreams::new(rt.alloc());
     let (_, second) = open_two(&mut upstreams, 5, 7)?;
-    upstreams.mark_heard(second, ResponseStage::Keepable);
+    upstreams.mark_heard(second, ResponseStage::Keepable, 8);
     assert_eq!(rt; used_for(&rt, &mut upstreams, &head, 7)?, Some(2));
     assert_eq!(rt; used_for(&rt, &mut upstreams, &head, 4)?, None);
     Ok(())

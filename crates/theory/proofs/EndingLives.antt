@@ -247,7 +247,7 @@ module _ (setup : Setup) (before behind : Told) (s : theory_requests.State) (h :
   acted (Close k) may = record { apart = apart_without k s.live h.apart; below = below_without s.count k s.live h.below }
   acted CloseClient may = h
 
-  numbered_behind : (m : theory_requests.Move) → MayMove setup before behind s m → AreNumbered (theory_requests.live_after s.live s.due m) (theory_requests.count_after s.count m)
+  numbered_behind : (m : theory_requests.Move) → MayMove setup before behind s m → AreNumbered (theory_requests.live_after setup s.live s.due m) (theory_requests.count_after s.count m)
   numbered_behind (theory_requests.Move.Takes noted) may = h
   numbered_behind (theory_requests.Move.Begins noted head ended route text stage) may = h
   numbered_behind (theory_requests.Move.Gathers noted item route text old body written stage) may = h
@@ -255,7 +255,7 @@ module _ (setup : Setup) (before behind : Told) (s : theory_requests.State) (h :
   numbered_behind (theory_requests.Move.Drops noted item) may = h
   numbered_behind (theory_requests.Move.Breaks breach) may = h
   numbered_behind (theory_requests.Move.Notes event) may = h
-  numbered_behind (theory_requests.Move.Hears event heard) may = changed (with_answer (upstream_of event) (answer_by (idle_beside (upstream_of event) s.live) heard)) s.count s.live (λ l. refl) h
+  numbered_behind (theory_requests.Move.Hears event heard) may = changed (with_answer (upstream_of event) (answer_by setup.most_idle (idle_beside (upstream_of event) s.live) heard)) s.count s.live (λ l. refl) h
   numbered_behind (theory_requests.Move.Fails k) may = record { apart = apart_without k s.live h.apart; below = below_without s.count k s.live h.below }
   numbered_behind (theory_requests.Move.Sends noted) may = h
   numbered_behind (theory_requests.Move.Acts act) may = acted act may

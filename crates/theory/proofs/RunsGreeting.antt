@@ -19,7 +19,7 @@ use Rattle.theory.specs.Rule.{MayDo, AllAllowed, RestsBehind}
 
 -- one route for every authority and path; requests and responses are passed on whole
 abbrev pub setup : Setup
-setup = record { routes = record { authority = []; path = codes "/" } ∷ []; policy = Indexing; passing = Whole; max_body = 1048576; max_response = 1048576; keep = false }
+setup = record { routes = record { authority = []; path = codes "/" } ∷ []; policy = Indexing; passing = Whole; max_body = 1048576; max_response = 1048576; keep = false; most_idle = 8 }
 
 -- a frame by its parts
 abbrev pub frame : ℕ → ℕ → ℕ → List ℕ → Frame

@@ -22,7 +22,7 @@ use Rattle.theory_errors.proofs.Book.{errors_hold_by_book}
 
 -- one route for all, and bodies of a megabyte
 abbrev setup : Setup
-setup = record { routes = record { authority = []; path = codes "/" } ∷ []; policy = Plain; passing = Whole; max_body = 1048576; max_response = 1048576; keep = false }
+setup = record { routes = record { authority = []; path = codes "/" } ∷ []; policy = Plain; passing = Whole; max_body = 1048576; max_response = 1048576; keep = false; most_idle = 8 }
 
 abbrev frame : ℕ → ℕ → ℕ → List ℕ → Frame
 frame kind flags id payload = record { kind = kind; flags = flags; id = id; payload = payload }

@@ -40,7 +40,7 @@ use Rattle.theory_header_tables.proofs.Synced.{in_step_by}
 -- one route, for another authority
 abbrev elsewhere : Known
 elsewhere = record {
-  setup = record { routes = record { authority = codes "b"; path = codes "/" } ∷ []; policy = Indexing; passing = Whole; max_body = 1048576; max_response = 1048576; keep = false };
+  setup = record { routes = record { authority = codes "b"; path = codes "/" } ∷ []; policy = Indexing; passing = Whole; max_body = 1048576; max_response = 1048576; keep = false; most_idle = 8 };
   failures = [];
 }
 

@@ -7,7 +7,7 @@ use Rattle.model.specs.Setup.{Setup, Passing}
 use Rattle.model.specs.Setup.Passing.{Whole, Streaming}
 use Rattle.model.specs.Tapes.{Entry}
 use Rattle.model.specs.Lifetimes.{active}
-use Rattle.model.specs.Limits.{most_active, most_idle, longest_section}
+use Rattle.model.specs.Limits.{most_active, longest_section}
 use Rattle.model.specs.Tables.{Table, total_size}
 use Rattle.model.specs.Courses.{course}
 use Rattle.model.specs.Known.{Known}
@@ -274,7 +274,7 @@ module _ (known : Known) (run : List Move) (k : IsKnown known run) (rests : Rest
         let same = turns_same in
         omega (arith, less, same, few)
 
-    pub few_connections : length s.requests.live ≤ most_active + most_idle
+    pub few_connections : length s.requests.live ≤ most_active + known.setup.most_idle
     few_connections =
         let less = live_few known (turns_of known.setup run) (turns_may known.setup run k.all) (turns_so known run k.knows k.all k.answered)
         (subst (λ (x : Told). theory_requests.Rests x s.requests) (sym (turns_told known.setup run)) rests.served) in
@@ -360,7 +360,7 @@ module _ (setup : Setup) (run : List Move) (kept : View) (s : State) (led : Lead
     requests_few : length kept.upstreams.held ≤ most_streams
     requests_few = let few_there = few_requests known run is_known rests on in let same = ap length held_same in omega (arith, few_there, same)
 
-    connections_few : length kept.upstreams.live ≤ most_connections
+    connections_few : length kept.upstreams.live ≤ most_connections setup
     connections_few =
         let few_there = few_connections known run is_known rests on in
         let same = ap length live_same in

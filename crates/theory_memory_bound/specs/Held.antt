@@ -1,7 +1,7 @@
 -- How many octets the session keeps, as sums over all octet lists of what it keeps, and how many there may be where it rests.
 use Rattle.std.specs.Prelude.{ℕ, ◌+◌, ◌*◌, ◌≤◌, ◌==◌, if◌then◌else◌, List, [], ◌∷◌, length}
 use Rattle.model.specs.Setup.{Setup}
-use Rattle.model.specs.Limits.{most_idle, first_window}
+use Rattle.model.specs.Limits.{first_window}
 use Rattle.model.specs.Tables.{total_size}
 use Rattle.theory_errors.specs.Held.{octets_begun}
 use Rattle.theory_responses.specs.Held as offers
@@ -52,15 +52,15 @@ abbrev pub most_in_all : Setup → ℕ
 most_in_all setup = most_beside + most_streams * most_for_stream setup
 
 -- of connections one for each of those streams, and those that are idle
-abbrev pub most_connections : ℕ
-most_connections = most_streams + most_idle
+abbrev pub most_connections : Setup → ℕ
+most_connections setup = most_streams + setup.most_idle
 
 -- Little is kept; and of no stream's DATA more octets wait for its upstream's side than the connection's first receiving window has.
 pub record IsSmall (setup : Setup) (kept : View) : Type 0 where
   pub beside : held_beside kept ≤ most_beside
   pub few_boxes : length kept.offers.kept ≤ most_streams
   pub few_requests : length kept.upstreams.held ≤ most_streams
-  pub few_connections : length kept.upstreams.live ≤ most_connections
+  pub few_connections : length kept.upstreams.live ≤ most_connections setup
   pub each : (stream : ℕ) → held_for stream kept ≤ most_for_stream setup
   pub all : held_in kept ≤ most_in_all setup
   pub few_waiting : (stream : ℕ) → waiting_for stream kept ≤ first_window

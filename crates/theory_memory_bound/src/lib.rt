@@ -18,8 +18,8 @@ ghost use Rattle.theory_memory_bound.specs.Held.{IsSmall};
 
 /// Where moves led to what the session keeps, nothing is pending and the gateway rests, little is kept
 /// (`IsSmall`):
-/// - at most 100 streams have an outbox, at most 100 requests aren't whole, and at most 108
-///   connections are open, of which at most 8 are idle;
+/// - at most 100 streams have an outbox, at most 100 requests aren't whole, and at most
+///   `100 + most_idle` connections are open, of which at most `most_idle` are idle;
 /// - for each stream at most `max_body + max_response + 400000` octets are kept: what is on offer
 ///   for it, what is held of its request, and the answers that are being read for it, each with
 ///   what its reader holds unread and the head and the body that wait for its end;

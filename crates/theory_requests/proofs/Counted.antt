@@ -9,7 +9,6 @@ use Rattle.model.specs.Openings.{Opened, exchanges, exchange_on}
 use Rattle.model.specs.Known.{Known}
 use Rattle.model.specs.Lifetimes.{active}
 use Rattle.model.specs.Idle.{AreDistinct}
-use Rattle.model.specs.Limits.{most_idle}
 use Rattle.model.proofs.DeliveryReadings.{one_connection}
 use Rattle.theory_requests.specs.Told.{is_served}
 use Rattle.theory_requests.specs.Lines.{Answer, Line, line_of, is_idle, idle_ones}
@@ -139,7 +138,7 @@ module _ (known : Known) (turns : List Turn) (all : AreAllowed known.setup turns
           served_among known (tape_of turns) stream (ap (λ n. is_served known n (tape_of turns)) (sym one.same) ∙ sym ((all_told known turns so).served one.line.stream) ∙ served)
 
   -- Few are.
-  pub idle_few : length (idle_ones (state_of known.setup turns).live) ≤ most_idle
+  pub idle_few : length (idle_ones (state_of known.setup turns).live) ≤ known.setup.most_idle
   idle_few = stands.keeps.few
 
   -- None is, where no connection is kept.

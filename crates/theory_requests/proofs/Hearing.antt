@@ -38,7 +38,7 @@ module _ (known : Known) (t : List Entry) (s : State) (h : Stands known t s) (to
   u = after known.setup behind s (Hears event heard)
 
   abbrev pub change : Line → Line
-  change = with_answer (upstream_of event) (answer_by (idle_beside (upstream_of event) s.live) heard)
+  change = with_answer (upstream_of event) (answer_by known.setup.most_idle (idle_beside (upstream_of event) s.live) heard)
 
   line_is : (k : ℕ) → line_of k u.live ≡ option_map change (line_of k s.live)
   line_is k = find_map k_of change (λ l. refl) k s.live
@@ -75,5 +75,5 @@ module _ (known : Known) (t : List Entry) (s : State) (h : Stands known t s) (to
     in_time = λ x. x;
     let_go = let_go_left known t (Happened event) s h (λ ends. absurd (not_to_end known t s h told behind is_told come ends)) (λ k shut there. event_leaves known t k event (other k shut));
     closes = λ x. x;
-    shut = λ closed. ap (lines_heard (upstream_of event) heard) (h.shut closed);
+    shut = λ closed. ap (lines_heard known.setup.most_idle (upstream_of event) heard) (h.shut closed);
   }

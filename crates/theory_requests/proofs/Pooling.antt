@@ -16,7 +16,6 @@ use Rattle.model.specs.Known.{Known}
 use Rattle.model.specs.ErrorClause.{must_end}
 use Rattle.model.specs.Courses.{upstream_of}
 use Rattle.model.specs.Idle.{is_asked_for_head, IsAllHeard, IsTooLong, LeavesOpen, MayBeKept, IsIdle, AreIdle, AreDistinct, IsOneTooMany, last_upstream}
-use Rattle.model.specs.Limits.{most_idle}
 use Rattle.theory_requests.specs.Lines.{Answer, Line, k_of, line_of, is_idle, is_finished, idle_ones, Heard, answer_by, idle_beside, with_answer, lines_heard}
 use Rattle.theory_requests.specs.Pool.{Verdict, Answers, IsSo, Keeps}
 use Rattle.theory_requests.specs.Lines.Answer.{Pending, Idle, Done}
@@ -284,10 +283,10 @@ module _ (known : Known) (t : List Entry) (ls : List Line) (h : Keeps known t ls
   others = but k (idle_ones ls)
 
   abbrev answer : Answer
-  answer = answer_by (idle_beside k ls) heard
+  answer = answer_by known.setup.most_idle (idle_beside k ls) heard
 
   abbrev new : List Line
-  new = lines_heard k heard ls
+  new = lines_heard known.setup.most_idle k heard ls
 
   -- the others that are idle
   other_idle : (n : ℕ) → IsOne n others → IsIdle known (Happened event ∷ t) n
@@ -298,7 +297,7 @@ module _ (known : Known) (t : List Entry) (ls : List Line) (h : Keeps known t ls
       let was = is_so_idle known t ls h n back.0 found back.3 in
       idle_there known t (Happened event) n (leaves n apart was.is_open) was
 
-  too_many : most_idle ≤ length others → IsOneTooMany known (Happened event ∷ t) k
+  too_many : known.setup.most_idle ≤ length others → IsOneTooMany known (Happened event ∷ t) k
   too_many many = record {
     is_new = refl;
     others = others;
@@ -308,28 +307,28 @@ module _ (known : Known) (t : List Entry) (ls : List Line) (h : Keeps known t ls
   }
 
   -- its own answer
-  own : (x : Heard) → Verdict known (Happened event ∷ t) (exchange_on k t) x → Answers known (Happened event ∷ t) k (answer_by (idle_beside k ls) x)
+  own : (x : Heard) → Verdict known (Happened event ∷ t) (exchange_on k t) x → Answers known (Happened event ∷ t) k (answer_by known.setup.most_idle (idle_beside k ls) x)
   own Partly v = v
-  own Keepable v = by (nat_lt (length others) most_idle) refl
+  own Keepable v = by (nat_lt (length others) known.setup.most_idle) refl
     where
-      by : (b : Bool) → nat_lt (length others) most_idle ≡ b → Answers known (Happened event ∷ t) k (if b then Idle else Done)
+      by : (b : Bool) → nat_lt (length others) known.setup.most_idle ≡ b → Answers known (Happened event ∷ t) k (if b then Idle else Done)
       by true e = v
-      by false e = (idle_heard known (Happened event ∷ t) k v, λ m. inl (too_many (ltb-false (length others) most_idle e)))
+      by false e = (idle_heard known (Happened event ∷ t) k v, λ m. inl (too_many (ltb-false (length others) known.setup.most_idle e)))
   own Finished v = (v.0, λ m. absurd (v.1 m))
 
-  room_for : (x : Heard) → is_idle (answer_by (idle_beside k ls) x) ≡ true → length others < most_idle
+  room_for : (x : Heard) → is_idle (answer_by known.setup.most_idle (idle_beside k ls) x) ≡ true → length others < known.setup.most_idle
   room_for Partly e = absurd (cc)
-  room_for Keepable e = by (nat_lt (length others) most_idle) refl e
+  room_for Keepable e = by (nat_lt (length others) known.setup.most_idle) refl e
     where
-      by : (b : Bool) → nat_lt (length others) most_idle ≡ b → is_idle (if b then Idle else Done) ≡ true → length others < most_idle
-      by true less e = ltb-true (length others) most_idle less
+      by : (b : Bool) → nat_lt (length others) known.setup.most_idle ≡ b → is_idle (if b then Idle else Done) ≡ true → length others < known.setup.most_idle
+      by true less e = ltb-true (length others) known.setup.most_idle less
       by false no_less e = absurd (cc)
   room_for Finished e = absurd (cc)
 
   distinct_now : AreDistinct (numbers new)
   distinct_now = subst AreDistinct (sym (answer_numbers k answer ls)) h.distinct
 
-  few_now : length (idle_ones new) ≤ most_idle
+  few_now : length (idle_ones new) ≤ known.setup.most_idle
   few_now = elim (cases_Bool (is_idle answer)) [
     | inl idle ↦ (let less = few_distinct (idle_ones new) (k ∷ others) (idle_distinct new distinct_now) (λ n i. with_it n i) in let room = room_for heard idle in omega (arith, less, room))
     | inr no_one ↦ (let less = few_distinct (idle_ones new) (idle_ones ls) (idle_distinct new distinct_now) (λ n i. without_it no_one n i) in let few = h.few in omega (arith, less, few))

@@ -16,7 +16,6 @@ use Rattle.model.specs.Known.{Known}
 use Rattle.model.specs.Offers.{is_to_head}
 use Rattle.model.specs.ErrorClause.{must_end}
 use Rattle.model.specs.Idle.{is_asked_for_head, IsAllHeard, AreDistinct}
-use Rattle.model.specs.Limits.{most_idle}
 use Rattle.model.proofs.ItemLaws.{items_stay}
 use Rattle.model.proofs.OfferLemmas.{nothing_complete}
 use Rattle.model.proofs.ExchangeLaws.{another_on, first_on, sent_beside, given_one, unheard}
@@ -125,7 +124,7 @@ module _ (known : Known) (t : List Entry) (ls : List Line) (h : Keeps known t ls
   distinct_now : AreDistinct (numbers new)
   distinct_now = subst AreDistinct (sym (given_numbers k (last_stream t) ls)) h.distinct
 
-  few_now : length (idle_ones new) ≤ most_idle
+  few_now : length (idle_ones new) ≤ known.setup.most_idle
   few_now =
       let less = few_distinct (idle_ones new) (idle_ones ls) (idle_distinct new distinct_now) within in
       let few = h.few in omega (arith, less, few)

@@ -22,7 +22,7 @@ use Rattle.theory_requests.proofs.Telling.{serving}
 -- one route for every authority and path
 abbrev pub known : Known
 known = record {
-  setup = record { routes = record { authority = []; path = codes "/" } ∷ []; policy = Plain; passing = WholePassing; max_body = 1048576; max_response = 1048576; keep = false };
+  setup = record { routes = record { authority = []; path = codes "/" } ∷ []; policy = Plain; passing = WholePassing; max_body = 1048576; max_response = 1048576; keep = false; most_idle = 8 };
   failures = [];
 }
 

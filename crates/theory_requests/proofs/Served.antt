@@ -213,7 +213,7 @@ module _ (known : Known) (t : List Entry) (s : State) (h : Stands known t s) (be
   still_served noted goaway (ToUse k stream text stage) is = served_same known t noted goaway stream ∙ is
   still_served noted goaway (ToSend k text) is = λ l found. served_same known t noted goaway l.stream ∙ is l found
 
-  due_served_behind : (before : Told) (m : Move) → MayMove known.setup before behind s m → IsTold known (entry_of m ∷ t) behind → DueServed known (entry_of m ∷ t) (live_after s.live s.due m) (due_after known.setup s.live s.due m)
+  due_served_behind : (before : Told) (m : Move) → MayMove known.setup before behind s m → IsTold known (entry_of m ∷ t) behind → DueServed known (entry_of m ∷ t) (live_after known.setup s.live s.due m) (due_after known.setup s.live s.due m)
   due_served_behind before (Takes noted) may is = nothing_served (Came noted) _ s.due may.nothing
   due_served_behind before (Begins noted head ended route text stage) may is = opens_served noted may.1.serving is s.live (goes_now known.setup stage) (least_idle route s.live) route text stage
   due_served_behind before (Gathers noted item route text old body written stage) may is = opens_served noted may.1.serving is s.live (is_whole stage) (least_idle route s.live) route (text ++ written) stage

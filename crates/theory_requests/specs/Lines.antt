@@ -1,6 +1,5 @@
 -- Open upstream connections as they are kept, and what becomes of them.
 use Rattle.std.specs.Prelude.{ℕ, nat_lt, Bool, true, false, not, ◌&&◌, ◌==◌, if◌then◌else◌, List, [], ◌∷◌, map, length, filter, Option, Some, None}
-use Rattle.model.specs.Limits.{most_idle}
 
 -- ---- lists by a number
 
@@ -69,11 +68,11 @@ pub data Heard : Type 0 where
   Keepable : Heard
   Finished : Heard
 
--- a connection becomes idle where fewer than so many others are
-abbrev pub answer_by : ℕ → Heard → Answer
-answer_by others Partly = Pending
-answer_by others Keepable = if nat_lt others most_idle then Idle else Done
-answer_by others Finished = Done
+-- a connection becomes idle where so many others are, and fewer than may be
+abbrev pub answer_by : ℕ → ℕ → Heard → Answer
+answer_by most others Partly = Pending
+answer_by most others Keepable = if nat_lt others most then Idle else Done
+answer_by most others Finished = Done
 
 -- how many others are idle
 abbrev pub idle_beside : ℕ → List Line → ℕ
@@ -84,9 +83,9 @@ idle_beside k ls = length (filter (λ j. not (j == k)) (idle_ones ls))
 abbrev pub with_answer : ℕ → Answer → Line → Line
 with_answer k answer l = record { k = l.k; route = l.route; stream = l.stream; answer = if l.k == k then answer else l.answer }
 
--- behind an answer
-abbrev pub lines_heard : ℕ → Heard → List Line → List Line
-lines_heard k heard ls = map (with_answer k (answer_by (idle_beside k ls) heard)) ls
+-- behind an answer, where so many may be idle
+abbrev pub lines_heard : ℕ → ℕ → Heard → List Line → List Line
+lines_heard most k heard ls = map (with_answer k (answer_by most (idle_beside k ls) heard)) ls
 
 -- a connection is opened for a stream
 abbrev pub lines_opened : ℕ → ℕ → ℕ → List Line → List Line

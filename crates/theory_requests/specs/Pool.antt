@@ -6,7 +6,6 @@ use Rattle.model.specs.Openings.{Opened, exchanges, exchange_on, route_of, given
 use Rattle.model.specs.Known.{Known}
 use Rattle.model.specs.ErrorClause.{must_end}
 use Rattle.model.specs.Idle.{IsAllHeard, MayBeKept, IsOneTooMany, AreDistinct}
-use Rattle.model.specs.Limits.{most_idle}
 use Rattle.theory_requests.specs.Lines.{Answer, Line, line_of, idle_ones, Heard}
 use Rattle.theory_requests.specs.Lines.Answer.{Pending, Idle, Done}
 use Rattle.theory_requests.specs.Lines.Heard.{Partly, Keepable, Finished}
@@ -35,4 +34,4 @@ pub record Keeps (known : Known) (t : List Entry) (ls : List Line) : Type 0 wher
   pub are_so : (k : ℕ) (l : Line) → line_of k ls ≡ Some l → IsSo known t k l
   pub all : (k : ℕ) → is_open k t ≡ true → (l : Line) × (line_of k ls ≡ Some l)
   pub distinct : AreDistinct (map (λ (l : Line). l.k) ls)
-  pub few : length (idle_ones ls) ≤ most_idle
+  pub few : length (idle_ones ls) ≤ known.setup.most_idle

@@ -196,11 +196,11 @@ live_acted ls due (ToUp k octets) = lines_used due ls
 live_acted ls due (Close k) = lines_without k ls
 live_acted ls due _ = ls
 
-abbrev pub live_after : List Line → Due → Move → List Line
-live_after ls due (Hears event heard) = lines_heard (upstream_of event) heard ls
-live_after ls due (Fails k) = lines_without k ls
-live_after ls due (Acts act) = live_acted ls due act
-live_after ls due _ = ls
+abbrev pub live_after : Setup → List Line → Due → Move → List Line
+live_after setup ls due (Hears event heard) = lines_heard setup.most_idle (upstream_of event) heard ls
+live_after setup ls due (Fails k) = lines_without k ls
+live_after setup ls due (Acts act) = live_acted ls due act
+live_after setup ls due _ = ls
 
 -- ---- what is due behind a move
 
@@ -247,7 +247,7 @@ count_after count _ = count
 abbrev pub after : Setup → Told → State → Move → State
 after setup told s m = record {
   held = held_after setup told s.held s.due m;
-  live = live_after s.live s.due m;
+  live = live_after setup s.live s.due m;
   due = due_after setup s.live s.due m;
   count = count_after s.count m;
 }

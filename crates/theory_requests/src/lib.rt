@@ -42,7 +42,6 @@ ghost use Rattle.model.specs.Headline.{HoldsInTurn};
 ghost use Rattle.model.specs.Causes.{Cause};
 ghost use Rattle.model.specs.Openings.{Opened, exchanges, exchange_on, given, last_stream, sent_for};
 ghost use Rattle.model.specs.Idle.{IsIdle};
-ghost use Rattle.model.specs.Limits.{most_idle};
 ghost use Rattle.model.specs.Available.{IsIn};
 ghost use Rattle.model.specs.Admission.{is_open};
 ghost use Rattle.model.specs.Lifetimes.{active, is_active, is_ended_by_client};
@@ -207,7 +206,7 @@ pub fn requests_are_bounded()
         → Rests (told_of turns) (state_of known.setup turns)
         → length (state_of known.setup turns).live ≤ length (active (tape_of turns)) + length (idle_ones (state_of known.setup turns).live) }
     ensures idle { (known : Known) (turns : List Turn) → AreAllowed known.setup turns → AreSo known turns
-        → length (idle_ones (state_of known.setup turns).live) ≤ most_idle }
+        → length (idle_ones (state_of known.setup turns).live) ≤ known.setup.most_idle }
     ensures none_idle { (known : Known) (turns : List Turn) → AreAllowed known.setup turns → AreSo known turns → known.setup.keep ≡ false
         → idle_ones (state_of known.setup turns).live ≡ [] }
 {}

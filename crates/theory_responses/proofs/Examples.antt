@@ -57,7 +57,7 @@ two_ready = refl
 -- one route, for another authority
 abbrev pub elsewhere : Known
 elsewhere = record {
-  setup = record { routes = record { authority = codes "a.example"; path = codes "/" } ∷ []; policy = Plain; passing = Whole; max_body = 1048576; max_response = 1048576; keep = false };
+  setup = record { routes = record { authority = codes "a.example"; path = codes "/" } ∷ []; policy = Plain; passing = Whole; max_body = 1048576; max_response = 1048576; keep = false; most_idle = 8 };
   failures = [];
 }
 

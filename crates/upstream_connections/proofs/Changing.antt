@@ -10,8 +10,8 @@ marked k progress [] = refl
 marked k progress (c ∷ cs) = ap (λ ls. with_answer k progress c.live ∷ ls) (marked k progress cs)
 
 -- what was heard
-pub heard_is : (k : ℕ) (heard : Heard) (cs : List Connection) → lives (heard_at k heard cs) ≡ lines_heard k heard (lives cs)
-heard_is k heard cs = marked k (answer_by (idle_beside k (lives cs)) heard) cs
+pub heard_is : (most k : ℕ) (heard : Heard) (cs : List Connection) → lives (heard_at most k heard cs) ≡ lines_heard most k heard (lives cs)
+heard_is most k heard cs = marked k (answer_by most (idle_beside k (lives cs)) heard) cs
 
 -- one is given to a stream
 pub given_is : (k stream : ℕ) (answer : Answer) (cs : List Connection) → lives (map (given_at k stream answer) cs) ≡ lines_given k stream (lives cs)

@@ -3,7 +3,6 @@ use Rattle.std.proofs.Common.{◌≡◌, ℕ, ◌+◌, ◌<◌, ◌≤◌, ◌==
 use Rattle.std.specs.Prelude.{Option, is_some, suc, reverse, option_map}
 use Rattle.std.proofs.lemmas.Bool.{eq-eqb, ne_eqb, eqb-true, ltb-true, cases_lt, false≢true}
 use Rattle.std.proofs.lemmas.List.{reverse-append, append-nil, length-reverse}
-use Rattle.model.specs.Limits.{most_idle}
 use Rattle.upstream_response.specs.Waiting.{Answer}
 use Rattle.theory_requests.specs.Lines as theory_requests
 use Rattle.theory_requests.specs.Lines.{Line, Heard, find, without, is_idle, idle_ones, idle_beside, answer_by}
@@ -186,19 +185,19 @@ given_idle k stream answer cs (Some c) there =
     ∙ ap (λ b. is_idle (if b then Pending else c.live.answer)) (eq-eqb c.live.k k (found_key number_of k cs c there))
 
 -- where it is idle with what was heard, fewer were than may be
-pub heard_room : (k n : ℕ) (heard : Heard) (cs : List Connection) → is_idle_one (find number_of k (map (marked_at k (answer_by n heard)) cs)) ≡ true → n < most_idle
-heard_room k n heard cs is = by (find number_of k cs) (sym (marked_idle k (answer_by n heard) cs (find number_of k cs) refl) ∙ is)
+pub heard_room : (most k n : ℕ) (heard : Heard) (cs : List Connection) → is_idle_one (find number_of k (map (marked_at k (answer_by most n heard)) cs)) ≡ true → n < most
+heard_room most k n heard cs is = by (find number_of k cs) (sym (marked_idle k (answer_by most n heard) cs (find number_of k cs) refl) ∙ is)
   where
-    fits : (h : Heard) → is_idle (answer_by n h) ≡ true → n < most_idle
+    fits : (h : Heard) → is_idle (answer_by most n h) ≡ true → n < most
     fits Partly i = absurd (false≢true i)
     fits Finished i = absurd (false≢true i)
-    fits Keepable i = keep (nat_lt n most_idle) refl i
+    fits Keepable i = keep (nat_lt n most) refl i
       where
-        keep : (b : Bool) → nat_lt n most_idle ≡ b → is_idle (if b then Idle else Done) ≡ true → n < most_idle
-        keep true less j = ltb-true n most_idle less
+        keep : (b : Bool) → nat_lt n most ≡ b → is_idle (if b then Idle else Done) ≡ true → n < most
+        keep true less j = ltb-true n most less
         keep false from j = absurd (false≢true j)
 
-    by : (o : Option Connection) → (is_some o && is_idle (answer_by n heard)) ≡ true → n < most_idle
+    by : (o : Option Connection) → (is_some o && is_idle (answer_by most n heard)) ≡ true → n < most
     by None i = absurd (false≢true i)
     by (Some c) i = fits heard i
 

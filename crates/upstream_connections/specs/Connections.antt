@@ -78,9 +78,9 @@ abbrev pub HasRoom : ℕ → Option Connection → Type 0
 HasRoom count None = Unit {0}
 HasRoom count (Some c) = c.out + count < 2 ^ 64
 
--- this was heard of its exchange, by which it becomes idle or doesn't
-abbrev pub heard_at : ℕ → Heard → List Connection → List Connection
-heard_at k heard cs = map (marked_at k (answer_by (idle_beside k (lives cs)) heard)) cs
+-- this was heard of its exchange, by which it becomes idle or doesn't: so many may be
+abbrev pub heard_at : ℕ → ℕ → Heard → List Connection → List Connection
+heard_at most k heard cs = map (marked_at k (answer_by most (idle_beside k (lives cs)) heard)) cs
 
 -- ---- idle ones
 

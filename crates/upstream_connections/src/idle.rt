@@ -1,22 +1,21 @@
 //! The numbers of the connections that are idle, by rising number.
 
 ghost use Rattle.std.specs.Prelude.{ℕ, ◌≡◌, ◌<◌, ◌≤◌, length, slice_index_or};
-ghost use Rattle.model.specs.Limits.{most_idle};
 ghost use Rattle.upstream_connections.specs.Connections.{others, among};
 
-use crate::progress::MOST_IDLE;
+use crate::progress::IDLE_PLACES;
 use arrayvec::ArrayVec;
 
 /// The connection with this number isn't idle, if it was.
-pub fn strike(idle: &mut ArrayVec<u32, MOST_IDLE>, k: u32)
+pub fn strike(idle: &mut ArrayVec<u32, IDLE_PLACES>, k: u32)
     ensures { idle.new.items ≡ others k idle.old.items }
 {
     idle.retain(|number| *number != k);
 }
 
 /// The connection with this number, which isn't among them, is idle, too.
-pub fn enter(idle: &mut ArrayVec<u32, MOST_IDLE>, k: u32)
-    requires { length idle.old.items < most_idle }
+pub fn enter(idle: &mut ArrayVec<u32, IDLE_PLACES>, k: u32)
+    requires { length idle.old.items < 255 }
     ensures { idle.new.items ≡ among k idle.old.items }
 {
     let place = place_for(idle.as_slice(), k);

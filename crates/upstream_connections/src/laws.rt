@@ -37,7 +37,7 @@ pub fn what_is_held_is_seen()
 /// heard of a response, with a connection that is opened or an idle one that is given to a stream
 /// where that is due, and with one that is closed.
 pub fn changes_are_the_rules()
-    ensures heard { (k : ℕ) (heard : Heard) (cs : List Connection) → lives (heard_at k heard cs) ≡ lines_heard k heard (lives cs) }
+    ensures heard { (most k : ℕ) (heard : Heard) (cs : List Connection) → lives (heard_at most k heard cs) ≡ lines_heard most k heard (lives cs) }
     ensures opened { (setup : Setup) (told : Told) (s : State) (stream route : ℕ) (text : List ℕ) (stage : Stage) (to_head : Bool)
         (passing : ResponsePassing) → with_due (opened_for stream route to_head passing stage s) (ToSend (suc s.count) text)
         ≡ after setup told (with_due s (ToOpen stream route text stage)) (Acts (Open (suc s.count) route)) }

@@ -4,8 +4,8 @@ ghost use Rattle.std.specs.Prelude.{◌≡◌};
 ghost use Rattle.theory_requests.specs.Lines.{answer_by, is_idle};
 ghost use Rattle.upstream_connections.specs.Progress.{answer_of, heard_of};
 
-/// How many connections may be idle at once.
-pub(crate) const MOST_IDLE: usize = 8;
+/// The places for connections that are idle: as many as a `u8` can say that there may be.
+pub(crate) const IDLE_PLACES: usize = 255;
 
 /// How far the response on a connection is.
 #[derive(Clone, Copy, Debug, PartialEq, Eq)]
@@ -39,14 +39,14 @@ impl Progress {
 }
 
 impl ResponseStage {
-    /// How far the response is, where so many other connections are idle: one that may be kept is,
-    /// where fewer are than eight.
-    pub(crate) fn progress(self, others: usize) -> Progress
-        ensures { answer_of result ≡ answer_by others (heard_of self) }
+    /// How far the response is, where so many connections may be idle, and so many others are: one
+    /// that may be kept is, where fewer are than may be.
+    pub(crate) fn progress(self, most: u8, others: usize) -> Progress
+        ensures { answer_of result ≡ answer_by most others (heard_of self) }
     {
         match self {
             ResponseStage::Partly => Progress::Pending,
-            ResponseStage::Keepable if others < MOST_IDLE => Progress::Idle,
+            ResponseStage::Keepable if others < usize::from(most) => Progress::Idle,
             ResponseStage::Keepable | ResponseStage::Finished => Progress::Done,
         }
     }

@@ -14,7 +14,7 @@ ghost use Rattle.upstream_connections.specs.Progress.{heard_of};
 
 use crate::connection::UpstreamConnection;
 use crate::held::{self, Due, Held, OutgoingRequest, Way};
-use crate::progress::{MOST_IDLE, ResponseStage};
+use crate::progress::{IDLE_PLACES, ResponseStage};
 use crate::{connections, idle};
 use arrayvec::ArrayVec;
 use h1_writer::Text;
@@ -33,7 +33,7 @@ pub struct Upstreams {
     held: Vec<Held>,
     connections: Vec<UpstreamConnection>,
     /// The numbers of those that are idle, which rise.
-    idle: ArrayVec<u32, MOST_IDLE>,
+    idle: ArrayVec<u32, IDLE_PLACES>,
     count: u32,
 }
 
@@ -253,12 +253,12 @@ impl Upstreams {
     }
 
     /// This was heard of the response on a connection. Where it is whole, and the connection may be
-    /// kept behind it, that is idle from now on, unless eight others are.
-    pub fn mark_heard(&mut self, k: u32, verdict: ResponseStage)
-        ensures { self.new ≡ record self.old { live = heard_at k (heard_of verdict) self.old.live } }
+    /// kept behind it, that is idle from now on, unless as many others are as may be.
+    pub fn mark_heard(&mut self, k: u32, verdict: ResponseStage, most_idle: u8)
+        ensures { self.new ≡ record self.old { live = heard_at most_idle k (heard_of verdict) self.old.live } }
     {
         idle::strike(&mut self.idle, k);
-        let progress = verdict.progress(self.idle.len());
+        let progress = verdict.progress(most_idle, self.idle.len());
         if connections::mark(&mut self.connections, k, progress) {
             idle::enter(&mut self.idle, k);
         }

@@ -159,7 +159,7 @@ module _ (setup : Setup) (kept : View) (rest : IsAtRest kept) (run : List Move) 
           (hearing.octets_never known (tape_of run) k c.live.stream c.answer there of_stream apart (same_parts known same knows) open_yet octets never)
 
       pub octets_whole : done ≡ true → (heard : Heard) → IsVerdict setup.keep (held_of c.live.stream kept.upstreams.held) c.answer octets heard
-          → Course setup run s outputs (Happened (Up k octets)) (record kept { offers = refilled c.live.stream box kept.offers; upstreams = record kept.upstreams { live = heard_at k heard (map (answer_at k (fresh false way.Streaming)) kept.upstreams.live) } }) balanced outputs
+          → Course setup run s outputs (Happened (Up k octets)) (record kept { offers = refilled c.live.stream box kept.offers; upstreams = record kept.upstreams { live = heard_at setup.most_idle k heard (map (answer_at k (fresh false way.Streaming)) kept.upstreams.live) } }) balanced outputs
       octets_whole is heard verdict =
           hears.heard_performs setup kept rest run s leads k c found working (Up k octets) refl refl tt (λ y. refl) (octets_come k octets short) news heard (fresh false way.Streaming) box x there_is (tells.offers base.parts base.waits) (told_so heard (verdict_so is heard verdict))
           (λ part. absurd (never_partly heard verdict part)) (λ no. refl) outputs
@@ -230,7 +230,7 @@ module _ (setup : Setup) (kept : View) (rest : IsAtRest kept) (run : List Move) 
           hearing.end_judged known (tape_of run) k c.live.stream c.answer there of_stream apart it open_yet complete,
         )
 
-    pub end_brings : Course setup run s outputs (Happened (UpEnd k)) (record kept { offers = refilled c.live.stream box kept.offers; upstreams = record kept.upstreams { live = heard_at k Finished (map (answer_at k (fresh false way.Streaming)) kept.upstreams.live) } }) balanced outputs
+    pub end_brings : Course setup run s outputs (Happened (UpEnd k)) (record kept { offers = refilled c.live.stream box kept.offers; upstreams = record kept.upstreams { live = heard_at setup.most_idle k Finished (map (answer_at k (fresh false way.Streaming)) kept.upstreams.live) } }) balanced outputs
     end_brings =
         hears.heard_performs setup kept rest run s leads k c found working (UpEnd k) refl refl tt (λ y. refl) (λ gates rooms up. up) (news_at_end (passing_in c.answer.way) base.parts) Finished (fresh false way.Streaming) box x there_is (grows base.parts base.waits) end_told
         (λ no. absurd (cc)) (λ no. refl) outputs

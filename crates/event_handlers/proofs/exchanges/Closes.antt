@@ -201,14 +201,14 @@ module _ (kept : View) (rest : IsAtRest kept) (k : ℕ) (outputs : List Output) 
 
     -- its response is whole, of which this was heard
     whole : (h : Heard) (tells : (old new : Answer) (box box' : Outbox) → IsHeard old octets box h new box' → Tells old octets box true new box') (same : (answer : Answer) → left_of h answer ≡ fresh false Streaming) (middle : View) (taken : AreTaken kept k octets h middle)
-        (w : lines.Heard) → brings.IsVerdict setup.keep (held_of taken.connection.live.stream kept.upstreams.held) taken.connection.answer octets w → Brings setup kept balanced outputs (Happened (Up k octets)) (marked_as k w middle) balanced outputs
+        (w : lines.Heard) → brings.IsVerdict setup.keep (held_of taken.connection.live.stream kept.upstreams.held) taken.connection.answer octets w → Brings setup kept balanced outputs (Happened (Up k octets)) (marked_as setup.most_idle k w middle) balanced outputs
     whole h tells same middle taken w verdict run s leads =
         let x = taken.hears in
-        subst (λ (v : View). Course setup run s outputs (Happened (Up k octets)) (marked_as k w v) balanced outputs)
+        subst (λ (v : View). Course setup run s outputs (Happened (Up k octets)) (marked_as setup.most_idle k w v) balanced outputs)
         (sym (taken.is ∙ ap (λ (a : Answer). answered_with k a taken.offers kept) (same taken.answer) ∙ ap (λ (o : theory_responses.State). answered_with k (fresh false Streaming) o kept) x.is))
         (brings.octets_whole setup kept rest run s leads k taken.connection taken.found (its taken.connection taken.found).1 outputs octets short true taken.answer x.stream x.box x.found (tells taken.connection.answer taken.answer x.stream.box x.box x.hears) refl w verdict)
 
-    pub keepable : (middle : View) → AreTaken kept k octets heard.Keepable middle → (w : lines.Heard) → w ≡ verdict_by setup.keep (held_of stream kept.upstreams.held) → Brings setup kept balanced outputs (Happened (Up k octets)) (marked_as k w middle) balanced outputs
+    pub keepable : (middle : View) → AreTaken kept k octets heard.Keepable middle → (w : lines.Heard) → w ≡ verdict_by setup.keep (held_of stream kept.upstreams.held) → Brings setup kept balanced outputs (Happened (Up k octets)) (marked_as setup.most_idle k w middle) balanced outputs
     keepable middle taken w is =
         whole heard.Keepable (λ old new box box' x. x.0) (λ answer. refl) middle taken w
         (subst (brings.IsVerdict setup.keep (held_of taken.connection.live.stream kept.upstreams.held) taken.connection.answer octets) (sym (is ∙ ap (λ n. verdict_by setup.keep (held_of n kept.upstreams.held)) (its taken.connection taken.found).0))
@@ -220,7 +220,7 @@ module _ (kept : View) (rest : IsAtRest kept) (k : ℕ) (outputs : List Output) 
         by false None = inl refl
         by false (Some h) = inl refl
 
-    pub finished : (middle : View) → AreTaken kept k octets heard.Finished middle → Brings setup kept balanced outputs (Happened (Up k octets)) (marked_as k Finished middle) balanced outputs
+    pub finished : (middle : View) → AreTaken kept k octets heard.Finished middle → Brings setup kept balanced outputs (Happened (Up k octets)) (marked_as 0 k Finished middle) balanced outputs
     finished middle taken = whole heard.Finished (λ old new box box' x. x.0) (λ answer. refl) middle taken Finished (inr (inr taken.hears.hears.1))
 
     pub fails : (middle new : View) (put_out : List Output) (count : ℕ) → AreTaken kept k octets heard.Failed middle → stream < 2147483648 → IsAbandoned k stream middle outputs count new put_out → Brings setup kept balanced outputs (Happened (Up k octets)) new (back_of count) put_out
@@ -241,10 +241,10 @@ module _ (kept : View) (rest : IsAtRest kept) (k : ℕ) (outputs : List Output) 
 
   -- ---- the end
 
-  pub completes : (middle : View) → IsEndTaken kept k ended.Complete middle → Brings setup kept balanced outputs (Happened (UpEnd k)) (marked_as k Finished middle) balanced outputs
+  pub completes : (middle : View) → IsEndTaken kept k ended.Complete middle → Brings setup kept balanced outputs (Happened (UpEnd k)) (marked_as 0 k Finished middle) balanced outputs
   completes middle taken run s leads =
       let h = taken.ends in
-      subst (λ (v : View). Course setup run s outputs (Happened (UpEnd k)) (marked_as k Finished v) balanced outputs)
+      subst (λ (v : View). Course setup run s outputs (Happened (UpEnd k)) (marked_as 0 k Finished v) balanced outputs)
       (sym (taken.is ∙ ap (λ (o : theory_responses.State). answered_with k (fresh false Streaming) o kept) h.is))
       (brings.end_brings setup kept rest run s leads k taken.connection taken.found (its taken.connection taken.found).1 outputs h.stream h.box h.found h.ends.0 h.ends.1)
 

@@ -179,5 +179,5 @@ module _ (setup : Setup) (kept : View) (rest : IsAtRest kept) (run : List Move) 
       (λ x there. let same : ◌≡◌ {A = Option Connection} (Some x) (Some c) = sym there ∙ found in let this : x ≡ c = cc in ap (λ (y : Connection). y.live.answer) this ∙ pending)
 
   -- and so it does with another answer
-  pub partly_answered : (answer : answers.Answer) → heard_at k Partly (map (answer_at k answer) kept.upstreams.live) ≡ map (answer_at k answer) kept.upstreams.live
+  pub partly_answered : (answer : answers.Answer) → heard_at setup.most_idle k Partly (map (answer_at k answer) kept.upstreams.live) ≡ map (answer_at k answer) kept.upstreams.live
   partly_answered answer = marked_answered k Pending answer kept.upstreams.live ∙ ap (λ cs. map (answer_at k answer) cs) partly_same

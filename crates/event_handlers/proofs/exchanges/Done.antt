@@ -3,7 +3,6 @@ use Rattle.std.proofs.Common.{◌≡◌, ℕ, Bool, true, false, ◌==◌, nat_l
 use Rattle.std.specs.Prelude.{option_map}
 use Rattle.std.specs.List.{list_any}
 use Rattle.std.proofs.lemmas.Bool.{eq-eqb}
-use Rattle.model.specs.Limits.{most_idle}
 use Rattle.model.specs.Logs.{Output}
 use Rattle.model.specs.Logs.Act.{Close}
 use Rattle.model.specs.Logs.Output.{Does as Puts}
@@ -61,22 +60,22 @@ marked_none told k progress idle (c ∷ cs) none =
     by false was = was
 
 -- how far the response of a connection is behind what was heard
-abbrev progress_behind : ℕ → Heard → View → Answer
-progress_behind k heard kept = answer_by (idle_beside k (lives kept.upstreams.live)) heard
+abbrev progress_behind : ℕ → ℕ → Heard → View → Answer
+progress_behind most k heard kept = answer_by most (idle_beside k (lives kept.upstreams.live)) heard
 
 -- one that is open is idle then just by how far its response is
-idle_then : (k : ℕ) (heard : Heard) (kept : View) (c : Connection) → find number_of k kept.upstreams.live ≡ Some c → is_idle_then k heard kept ≡ is_idle (progress_behind k heard kept)
-idle_then k heard kept c found =
-    ap is_idle_one (find_map number_of (marked_at k (progress_behind k heard kept)) (λ y. refl) k kept.upstreams.live ∙ ap (option_map (marked_at k (progress_behind k heard kept))) found)
-    ∙ ap (λ b. is_idle (if b then progress_behind k heard kept else c.live.answer)) (eq-eqb c.live.k k (found_key number_of k kept.upstreams.live c found))
+idle_then : (most k : ℕ) (heard : Heard) (kept : View) (c : Connection) → find number_of k kept.upstreams.live ≡ Some c → is_idle_then most k heard kept ≡ is_idle (progress_behind most k heard kept)
+idle_then most k heard kept c found =
+    ap is_idle_one (find_map number_of (marked_at k (progress_behind most k heard kept)) (λ y. refl) k kept.upstreams.live ∙ ap (option_map (marked_at k (progress_behind most k heard kept))) found)
+    ∙ ap (λ b. is_idle (if b then progress_behind most k heard kept else c.live.answer)) (eq-eqb c.live.k k (found_key number_of k kept.upstreams.live c found))
 
 -- none is done with where the connection whose response is whole is idle, or goes
-pub finished_none : (k : ℕ) (heard : Heard) (kept : View) (c : Connection) → find number_of k kept.upstreams.live ≡ Some c → NoneDone kept → NoneDone (finished_at k heard kept)
-finished_none k heard kept c found none = by (is_idle_then k heard kept) refl
+pub finished_none : (most k : ℕ) (heard : Heard) (kept : View) (c : Connection) → find number_of k kept.upstreams.live ≡ Some c → NoneDone kept → NoneDone (finished_at most k heard kept)
+finished_none most k heard kept c found none = by (is_idle_then most k heard kept) refl
   where
-    by : (b : Bool) → is_idle_then k heard kept ≡ b → NoneDone (closed_unless b k (marked_as k heard kept))
-    by true is = marked_none (told_view kept) k (progress_behind k heard kept) (sym (idle_then k heard kept c found) ∙ is) kept.upstreams.live none
-    by false is = subst (λ (cs : List Connection). list_any (is_done (told_view kept)) (lives cs) ≡ false) (sym (finished_closed k (progress_behind k heard kept) kept.upstreams.live)) (closed_still k kept none)
+    by : (b : Bool) → is_idle_then most k heard kept ≡ b → NoneDone (closed_unless b k (marked_as most k heard kept))
+    by true is = marked_none (told_view kept) k (progress_behind most k heard kept) (sym (idle_then most k heard kept c found) ∙ is) kept.upstreams.live none
+    by false is = subst (λ (cs : List Connection). list_any (is_done (told_view kept)) (lives cs) ≡ false) (sym (finished_closed k (progress_behind most k heard kept) kept.upstreams.live)) (closed_still k kept none)
 
 -- ---- a stream that is given up
 
@@ -110,33 +109,33 @@ pub answered_found : (k : ℕ) (answer : answers.Answer) (cs : List Connection) 
 answered_found k answer cs c found = find_map number_of (answer_at k answer) (λ y. refl) k cs ∙ ap (option_map (answer_at k answer)) found
 
 -- one that isn't idle behind a whole response is done with
-whole_done : (others : ℕ) (heard : Heard) (served : Bool) → (heard ≡ Partly → ⊥) → is_idle (answer_by others heard) ≡ false → is_done_by (answer_by others heard) served ≡ true
-whole_done others Partly served whole off = absurd (whole refl)
-whole_done others Keepable served whole off = by (nat_lt others most_idle) off
+whole_done : (most others : ℕ) (heard : Heard) (served : Bool) → (heard ≡ Partly → ⊥) → is_idle (answer_by most others heard) ≡ false → is_done_by (answer_by most others heard) served ≡ true
+whole_done most others Partly served whole off = absurd (whole refl)
+whole_done most others Keepable served whole off = by (nat_lt others most) off
   where
     by : (b : Bool) → is_idle (if b then Idle else Done) ≡ false → is_done_by (if b then Idle else Done) served ≡ true
     by true on = let clash : true ≡ false = on in cc
     by false is = refl
-whole_done others Finished served whole off = refl
+whole_done most others Finished served whole off = refl
 
 -- Behind what came of its upstream a connection whose response is whole is idle, or is closed.
-pub finish_brings : (setup : Setup) (old kept new : View) (k : ℕ) (heard : Heard) (c : Connection) (entry : Entry) (outputs put_out : List Output) → find number_of k kept.upstreams.live ≡ Some c → (heard ≡ Partly → ⊥)
-    → Brings setup old balanced outputs entry (marked_as k heard kept) balanced outputs → new ≡ finished_at k heard kept → put_out ≡ put_finished k heard kept outputs → Brings setup old balanced outputs entry new balanced put_out
-finish_brings setup old kept new k heard c entry outputs put_out found whole brings is puts =
+pub finish_brings : (setup : Setup) (old kept new : View) (most k : ℕ) (heard : Heard) (c : Connection) (entry : Entry) (outputs put_out : List Output) → find number_of k kept.upstreams.live ≡ Some c → (heard ≡ Partly → ⊥)
+    → Brings setup old balanced outputs entry (marked_as most k heard kept) balanced outputs → new ≡ finished_at most k heard kept → put_out ≡ put_finished most k heard kept outputs → Brings setup old balanced outputs entry new balanced put_out
+finish_brings setup old kept new most k heard c entry outputs put_out found whole brings is puts =
     subst (λ (v : View). Brings setup old balanced outputs entry v balanced put_out) (sym is)
-    (subst (λ (o : List Output). Brings setup old balanced outputs entry (finished_at k heard kept) balanced o) (sym puts) (by (is_idle_then k heard kept) refl))
+    (subst (λ (o : List Output). Brings setup old balanced outputs entry (finished_at most k heard kept) balanced o) (sym puts) (by (is_idle_then most k heard kept) refl))
   where
-    done : is_idle_then k heard kept ≡ false → IsDone (told_view (marked_as k heard kept)) (marked_as k heard kept).upstreams.live k
+    done : is_idle_then most k heard kept ≡ false → IsDone (told_view (marked_as most k heard kept)) (marked_as most k heard kept).upstreams.live k
     done off = record {
-      connection = marked_at k (progress_behind k heard kept) c;
-      found = find_map number_of (marked_at k (progress_behind k heard kept)) (λ y. refl) k kept.upstreams.live ∙ ap (option_map (marked_at k (progress_behind k heard kept))) found;
+      connection = marked_at k (progress_behind most k heard kept) c;
+      found = find_map number_of (marked_at k (progress_behind most k heard kept)) (λ y. refl) k kept.upstreams.live ∙ ap (option_map (marked_at k (progress_behind most k heard kept))) found;
       done =
-          ap (λ b. is_done_by (if b then progress_behind k heard kept else c.live.answer) ((told_view kept).served c.live.stream)) (eq-eqb c.live.k k (found_key number_of k kept.upstreams.live c found))
-          ∙ whole_done (idle_beside k (lives kept.upstreams.live)) heard ((told_view kept).served c.live.stream) whole (sym (idle_then k heard kept c found) ∙ off);
+          ap (λ b. is_done_by (if b then progress_behind most k heard kept else c.live.answer) ((told_view kept).served c.live.stream)) (eq-eqb c.live.k k (found_key number_of k kept.upstreams.live c found))
+          ∙ whole_done most (idle_beside k (lives kept.upstreams.live)) heard ((told_view kept).served c.live.stream) whole (sym (idle_then most k heard kept c found) ∙ off);
     }
 
-    by : (b : Bool) → is_idle_then k heard kept ≡ b → Brings setup old balanced outputs entry (closed_unless b k (marked_as k heard kept)) balanced (put_unless b k outputs)
+    by : (b : Bool) → is_idle_then most k heard kept ≡ b → Brings setup old balanced outputs entry (closed_unless b k (marked_as most k heard kept)) balanced (put_unless b k outputs)
     by true is = brings
     by false is =
-        brings_then setup old (marked_as k heard kept) (closed_at k (marked_as k heard kept)) balanced balanced balanced outputs outputs (put outputs (Puts (Close k))) entry brings
-        (closes setup (marked_as k heard kept) 0 k (λ top below. done is) outputs)
+        brings_then setup old (marked_as most k heard kept) (closed_at k (marked_as most k heard kept)) balanced balanced balanced outputs outputs (put outputs (Puts (Close k))) entry brings
+        (closes setup (marked_as most k heard kept) 0 k (λ top below. done is) outputs)

@@ -74,16 +74,16 @@ use Rattle.event_handlers.proofs.exchanges.Coming as coming
 use Rattle.event_handlers.proofs.exchanges.FailedRows as failing
 
 -- a connection that goes, whatever was heard of its response
-without_heard : (k : ℕ) (heard : Heard) (cs : List Connection) → without k_of k (lines_heard k heard (lives cs)) ≡ without k_of k (lives cs)
-without_heard k heard cs =
-    ap (λ ls. without k_of k ls) (sym (lives_heard k heard cs)) ∙ sym (lives_closed k (heard_at k heard cs))
-    ∙ ap lives (finished_closed k (answer_by (idle_beside k (lives cs)) heard) cs) ∙ lives_closed k cs
+without_heard : (most k : ℕ) (heard : Heard) (cs : List Connection) → without k_of k (lines_heard most k heard (lives cs)) ≡ without k_of k (lives cs)
+without_heard most k heard cs =
+    ap (λ ls. without k_of k ls) (sym (lives_heard most k heard cs)) ∙ sym (lives_closed k (heard_at most k heard cs))
+    ∙ ap lives (finished_closed k (answer_by most (idle_beside k (lives cs)) heard) cs) ∙ lives_closed k cs
 
 -- behind one that failed a connection whose stream isn't served is done with
-failed_done : (others : ℕ) (heard : Heard) → (heard ≡ Keepable → ⊥) → is_done_by (answer_by others heard) false ≡ true
-failed_done others Partly never = refl
-failed_done others Keepable never = absurd (never refl)
-failed_done others Finished never = refl
+failed_done : (most others : ℕ) (heard : Heard) → (heard ≡ Keepable → ⊥) → is_done_by (answer_by most others heard) false ≡ true
+failed_done most others Partly never = refl
+failed_done most others Keepable never = absurd (never refl)
+failed_done most others Finished never = refl
 
 -- the reset that is owed, where a final head is out
 abbrev pub resets_for : View → ℕ → List Frame
@@ -239,13 +239,13 @@ module _ (setup : Setup) (kept : View) (rest : IsAtRest kept) (run : List Move) 
   }
 
   module _ (as_heard : failed_request event w ≡ theory_requests.Move.Hears event w) where
-    requests_one : one.requests ≡ record { held = without id_of stream kept.upstreams.held; live = lines_heard k w (lives kept.upstreams.live); due = Nothing; count = kept.upstreams.count }
+    requests_one : one.requests ≡ record { held = without id_of stream kept.upstreams.held; live = lines_heard setup.most_idle k w (lives kept.upstreams.live); due = Nothing; count = kept.upstreams.count }
     requests_one =
         ap (λ (m : theory_requests.Move). theory_requests.after setup (told_in (told_behind setup s decision)) s.requests m) as_heard
         ∙ ap (λ (d : Ledger). theory_requests.after setup (told_in (summary_in d.book)) s.requests (theory_requests.Move.Hears event w)) ledger_one
-        ∙ ap (λ (hs : List Held). record { held = hs; live = lines_heard (upstream_of event) w s.requests.live; due = s.requests.due; count = s.requests.count }) held_one
-        ∙ ap (λ n. record { held = without id_of stream s.requests.held; live = lines_heard n w s.requests.live; due = s.requests.due; count = s.requests.count }) of
-        ∙ ap (λ (r : theory_requests.State). record { held = without id_of stream r.held; live = lines_heard k w r.live; due = r.due; count = r.count }) leads.keeps.requests
+        ∙ ap (λ (hs : List Held). record { held = hs; live = lines_heard setup.most_idle (upstream_of event) w s.requests.live; due = s.requests.due; count = s.requests.count }) held_one
+        ∙ ap (λ n. record { held = without id_of stream s.requests.held; live = lines_heard setup.most_idle n w s.requests.live; due = s.requests.due; count = s.requests.count }) of
+        ∙ ap (λ (r : theory_requests.State). record { held = without id_of stream r.held; live = lines_heard setup.most_idle k w r.live; due = r.due; count = r.count }) leads.keeps.requests
 
     -- ---- the connection is open still
 
@@ -254,10 +254,10 @@ module _ (setup : Setup) (kept : View) (rest : IsAtRest kept) (run : List Move) 
       abbrev pub open_view : View
       open_view = replied_to stream (answered_with k answer kept.offers kept)
 
-      lives_open : lines_heard k w (lives kept.upstreams.live) ≡ lives open_view.upstreams.live
+      lives_open : lines_heard setup.most_idle k w (lives kept.upstreams.live) ≡ lives open_view.upstreams.live
       lives_open =
-          ap (λ (h : Heard). lines_heard k h (lives kept.upstreams.live)) part
-          ∙ sym (lives_heard k Partly kept.upstreams.live)
+          ap (λ (h : Heard). lines_heard setup.most_idle k h (lives kept.upstreams.live)) part
+          ∙ sym (lives_heard setup.most_idle k Partly kept.upstreams.live)
           ∙ ap lives (coming.partly_same setup kept rest run s leads k c found working)
           ∙ sym (lives_same (answer_at k answer) (λ y. refl) kept.upstreams.live)
 
@@ -348,20 +348,20 @@ module _ (setup : Setup) (kept : View) (rest : IsAtRest kept) (run : List Move) 
 
     -- its line then
     abbrev line_then : Line
-    line_then = with_answer k (answer_by (idle_beside k (lives kept.upstreams.live)) w) c.live
+    line_then = with_answer k (answer_by setup.most_idle (idle_beside k (lives kept.upstreams.live)) w) c.live
 
     line_one : line_of k one.requests.live ≡ Some line_then
     line_one =
         ap (λ (r : theory_requests.State). line_of k r.live) requests_one
-        ∙ find_map k_of (with_answer k (answer_by (idle_beside k (lives kept.upstreams.live)) w)) (λ l. refl) k (lives kept.upstreams.live)
-        ∙ ap (option_map (with_answer k (answer_by (idle_beside k (lives kept.upstreams.live)) w))) (found_live k kept.upstreams.live c found)
+        ∙ find_map k_of (with_answer k (answer_by setup.most_idle (idle_beside k (lives kept.upstreams.live)) w)) (λ l. refl) k (lives kept.upstreams.live)
+        ∙ ap (option_map (with_answer k (answer_by setup.most_idle (idle_beside k (lives kept.upstreams.live)) w))) (found_live k kept.upstreams.live c found)
 
     done_one : is_done (told_in (told_by one)) line_then ≡ true
     done_one =
         ap (λ (d : Ledger). is_done_by line_then.answer ((told_in (summary_in d.book)).served stream)) ledger_one
         ∙ ap (λ b. is_done_by line_then.answer b) not_served
-        ∙ ap (λ b. is_done_by (if b then answer_by (idle_beside k (lives kept.upstreams.live)) w else c.live.answer) false) (eq-eqb c.live.k k (found_key number_of k kept.upstreams.live c found))
-        ∙ failed_done (idle_beside k (lives kept.upstreams.live)) w never
+        ∙ ap (λ b. is_done_by (if b then answer_by setup.most_idle (idle_beside k (lives kept.upstreams.live)) w else c.live.answer) false) (eq-eqb c.live.k k (found_key number_of k kept.upstreams.live c found))
+        ∙ failed_done setup.most_idle (idle_beside k (lives kept.upstreams.live)) w never
 
     may_two : resets_for kept stream ≡ [] → MayGoOn setup one (Does second)
     may_two unreset = (
@@ -376,7 +376,7 @@ module _ (setup : Setup) (kept : View) (rest : IsAtRest kept) (run : List Move) 
     requests_two : two.requests ≡ upstreams.with_due closed_view.upstreams Nothing
     requests_two =
         ap (λ (r : theory_requests.State). theory_requests.after setup (told_in (told_behind setup one second)) r (theory_requests.Move.Acts (Close k))) requests_one
-        ∙ ap (λ (ls : List Line). record { held = map (drop_from k) (without id_of stream kept.upstreams.held); live = ls; due = Nothing; count = kept.upstreams.count }) (without_heard k w kept.upstreams.live ∙ sym (lives_closed k kept.upstreams.live))
+        ∙ ap (λ (ls : List Line). record { held = map (drop_from k) (without id_of stream kept.upstreams.held); live = ls; due = Nothing; count = kept.upstreams.count }) (without_heard setup.most_idle k w kept.upstreams.live ∙ sym (lives_closed k kept.upstreams.live))
 
     book_two : two.ledger.book ≡ book_of (record { given = two.ledger.book.given; untaken = kept.untaken }) new.inbound
     book_two =

@@ -20,7 +20,7 @@ use Rattle.upstream_connections.specs.Connections.{Connection, number_of, lives,
 use Rattle.refinement.specs.View.{View, balanced}
 use Rattle.refinement.specs.Rest.{IsAtRest, NoneDone}
 use Rattle.refinement.specs.Bringing.{Brings}
-use Rattle.event_handlers.specs.exchanges.Finishing.{closed_by, marked_as, is_idle_then, closed_unless, verdict_by, put_unless, finished_at, put_finished}
+use Rattle.event_handlers.specs.exchanges.Finishing.{IsKeeping, closed_by, marked_as, is_idle_then, closed_unless, verdict_by, put_unless, finished_at, put_finished}
 use Rattle.event_handlers.specs.exchanges.Taking.{served_by, answered_with, left_of, AreTaken, IsEndTaken}
 use Rattle.event_handlers.proofs.exchanges.Closes.{IsFoundFor, keepable, finished, completes}
 use Rattle.event_handlers.proofs.exchanges.Done.{answered_none, answered_found, finish_brings, finished_none}
@@ -45,27 +45,28 @@ end_open kept k e middle taken = ap (λ (o : Option Connection). is_some o) (fou
 module _ (kept : View) (rest : IsAtRest kept) (k : ℕ) (outputs : List Output) (setup : Setup) (stream : ℕ) (it : IsFoundFor k stream kept.upstreams.live) (middle new : View) (put_out : List Output) where
   module _ (octets : List ℕ) (short : length octets ≤ 65536) where
     -- It leaves its connection open, which may be kept then.
-    pub keepable_finished : (w : Heard) (keep : Bool) → AreTaken kept k octets heard.Keepable middle → w ≡ verdict_by keep (held_of stream middle.upstreams.held) → keep ≡ setup.keep → new ≡ finished_at k w middle → put_out ≡ put_finished k w middle outputs
+    pub keepable_finished : (w : Heard) (keep : Bool) (most : ℕ) → AreTaken kept k octets heard.Keepable middle → w ≡ verdict_by keep (held_of stream middle.upstreams.held) → IsKeeping keep most setup → new ≡ finished_at most k w middle → put_out ≡ put_finished most k w middle outputs
         → Brings setup kept balanced outputs (Happened (Up k octets)) new balanced put_out
-    keepable_finished w keep taken verdict keeps is puts =
-        finish_brings setup kept middle new k w (answer_at k (fresh false Streaming) taken.connection) (Happened (Up k octets)) outputs put_out
+    keepable_finished w keep most taken verdict keeps is puts =
+        finish_brings setup kept middle new most k w (answer_at k (fresh false Streaming) taken.connection) (Happened (Up k octets)) outputs put_out
         (found_then kept middle k (fresh false Streaming) taken.offers taken.connection taken.found taken.is)
         (λ part. verdict_whole keep (held_of stream middle.upstreams.held) (sym verdict ∙ part))
+        (subst (λ n. Brings setup kept balanced outputs (Happened (Up k octets)) (marked_as n k w middle) balanced outputs) (sym keeps.1)
         (keepable kept rest k outputs setup stream it octets short middle taken w
-        (verdict ∙ ap (λ (v : View). verdict_by keep (held_of stream v.upstreams.held)) taken.is ∙ ap (λ b. verdict_by b (held_of stream kept.upstreams.held)) keeps))
+        (verdict ∙ ap (λ (v : View). verdict_by keep (held_of stream v.upstreams.held)) taken.is ∙ ap (λ b. verdict_by b (held_of stream kept.upstreams.held)) keeps.0)))
         is puts
 
     -- It doesn't.
-    pub whole_finished : AreTaken kept k octets heard.Finished middle → new ≡ finished_at k Finished middle → put_out ≡ put_finished k Finished middle outputs → Brings setup kept balanced outputs (Happened (Up k octets)) new balanced put_out
+    pub whole_finished : AreTaken kept k octets heard.Finished middle → new ≡ finished_at 0 k Finished middle → put_out ≡ put_finished 0 k Finished middle outputs → Brings setup kept balanced outputs (Happened (Up k octets)) new balanced put_out
     whole_finished taken is puts =
-        finish_brings setup kept middle new k Finished (answer_at k (fresh false Streaming) taken.connection) (Happened (Up k octets)) outputs put_out
+        finish_brings setup kept middle new 0 k Finished (answer_at k (fresh false Streaming) taken.connection) (Happened (Up k octets)) outputs put_out
         (found_then kept middle k (fresh false Streaming) taken.offers taken.connection taken.found taken.is) (λ part. cc)
         (finished kept rest k outputs setup stream it octets short middle taken) is puts
 
   -- It is whole with the end.
-  pub end_finished : IsEndTaken kept k ended.Complete middle → new ≡ finished_at k Finished middle → put_out ≡ put_finished k Finished middle outputs → Brings setup kept balanced outputs (Happened (UpEnd k)) new balanced put_out
+  pub end_finished : IsEndTaken kept k ended.Complete middle → new ≡ finished_at 0 k Finished middle → put_out ≡ put_finished 0 k Finished middle outputs → Brings setup kept balanced outputs (Happened (UpEnd k)) new balanced put_out
   end_finished taken is puts =
-      finish_brings setup kept middle new k Finished (answer_at k (fresh false Streaming) taken.connection) (Happened (UpEnd k)) outputs put_out
+      finish_brings setup kept middle new 0 k Finished (answer_at k (fresh false Streaming) taken.connection) (Happened (UpEnd k)) outputs put_out
       (found_then kept middle k (fresh false Streaming) taken.offers taken.connection taken.found taken.is) (λ part. cc)
       (completes kept rest k outputs setup stream it middle taken) is puts
 
@@ -83,20 +84,20 @@ works_for_none (Some c) served some of b is = by (is_idle c.live.answer) b (sym 
     by false false same = refl
 
 -- one that is open is so still
-pub marked_open : (k : ℕ) (w : Heard) (kept : View) → is_some (find number_of k kept.upstreams.live) ≡ true → is_some (find number_of k (marked_as k w kept).upstreams.live) ≡ true
-marked_open k w kept some =
-    ap (λ (o : Option Connection). is_some o) (find_map number_of (marked_at k (answer_by (idle_beside k (lives kept.upstreams.live)) w)) (λ y. refl) k kept.upstreams.live)
+pub marked_open : (most k : ℕ) (w : Heard) (kept : View) → is_some (find number_of k kept.upstreams.live) ≡ true → is_some (find number_of k (marked_as most k w kept).upstreams.live) ≡ true
+marked_open most k w kept some =
+    ap (λ (o : Option Connection). is_some o) (find_map number_of (marked_at k (answer_by most (idle_beside k (lives kept.upstreams.live)) w)) (λ y. refl) k kept.upstreams.live)
     ∙ by (find number_of k kept.upstreams.live) ∙ some
   where
-    by : (o : Option Connection) → is_some (option_map (marked_at k (answer_by (idle_beside k (lives kept.upstreams.live)) w)) o) ≡ is_some o
+    by : (o : Option Connection) → is_some (option_map (marked_at k (answer_by most (idle_beside k (lives kept.upstreams.live)) w)) o) ≡ is_some o
     by None = refl
     by (Some c) = refl
 
-pub finished_by : (k : ℕ) (w : Heard) (kept : View) (b : Bool) → is_idle_then k w kept ≡ b → closed_unless b k (marked_as k w kept) ≡ finished_at k w kept
-finished_by k w kept b is = ap (λ x. closed_unless x k (marked_as k w kept)) (sym is)
+pub finished_by : (most k : ℕ) (w : Heard) (kept : View) (b : Bool) → is_idle_then most k w kept ≡ b → closed_unless b k (marked_as most k w kept) ≡ finished_at most k w kept
+finished_by most k w kept b is = ap (λ x. closed_unless x k (marked_as most k w kept)) (sym is)
 
-pub put_by : (k : ℕ) (w : Heard) (kept : View) (outputs : List Output) (b : Bool) → is_idle_then k w kept ≡ b → put_unless b k outputs ≡ put_finished k w kept outputs
-put_by k w kept outputs b is = ap (λ x. put_unless x k outputs) (sym is)
+pub put_by : (most k : ℕ) (w : Heard) (kept : View) (outputs : List Output) (b : Bool) → is_idle_then most k w kept ≡ b → put_unless b k outputs ≡ put_finished most k w kept outputs
+put_by most k w kept outputs b is = ap (λ x. put_unless x k outputs) (sym is)
 
 -- what a response that leaves its connection open is heard as
 pub verdict_kept : (keep : Bool) (held : Option Held) → (keep && not (is_some held)) ≡ true → Keepable ≡ verdict_by keep held
@@ -115,29 +116,29 @@ verdict_else false (Some h) is = refl
 pub taken_none : (kept : View) (k : ℕ) (octets : List ℕ) (h : Told) (middle : View) → NoneDone kept → AreTaken kept k octets h middle → NoneDone middle
 taken_none kept k octets h middle none taken = answered_none kept middle k (left_of h taken.answer) taken.offers taken.is none
 
-pub taken_finished_none : (kept : View) (k : ℕ) (octets : List ℕ) (h : Told) (w : Heard) (middle new : View) → NoneDone kept → AreTaken kept k octets h middle → new ≡ finished_at k w middle → NoneDone new
-taken_finished_none kept k octets h w middle new none taken is =
-    subst NoneDone (sym is) (finished_none k w middle (answer_at k (left_of h taken.answer) taken.connection) (found_then kept middle k (left_of h taken.answer) taken.offers taken.connection taken.found taken.is) (taken_none kept k octets h middle none taken))
+pub taken_finished_none : (kept : View) (most k : ℕ) (octets : List ℕ) (h : Told) (w : Heard) (middle new : View) → NoneDone kept → AreTaken kept k octets h middle → new ≡ finished_at most k w middle → NoneDone new
+taken_finished_none kept most k octets h w middle new none taken is =
+    subst NoneDone (sym is) (finished_none most k w middle (answer_at k (left_of h taken.answer) taken.connection) (found_then kept middle k (left_of h taken.answer) taken.offers taken.connection taken.found taken.is) (taken_none kept k octets h middle none taken))
 
-pub end_finished_none : (kept : View) (k : ℕ) (middle new : View) → NoneDone kept → IsEndTaken kept k ended.Complete middle → new ≡ finished_at k Finished middle → NoneDone new
+pub end_finished_none : (kept : View) (k : ℕ) (middle new : View) → NoneDone kept → IsEndTaken kept k ended.Complete middle → new ≡ finished_at 0 k Finished middle → NoneDone new
 end_finished_none kept k middle new none taken is =
     subst NoneDone (sym is)
-    (finished_none k Finished middle (answer_at k (fresh false Streaming) taken.connection) (found_then kept middle k (fresh false Streaming) taken.offers taken.connection taken.found taken.is)
+    (finished_none 0 k Finished middle (answer_at k (fresh false Streaming) taken.connection) (found_then kept middle k (fresh false Streaming) taken.offers taken.connection taken.found taken.is)
     (answered_none kept middle k (fresh false Streaming) taken.offers taken.is none))
 
 -- ---- nothing but connections changes
 
-pub finished_offers : (k : ℕ) (w : Heard) (middle new : View) → new ≡ finished_at k w middle → new.offers ≡ middle.offers
-finished_offers k w middle new is = ap (λ (v : View). v.offers) is ∙ by (is_idle_then k w middle)
+pub finished_offers : (most k : ℕ) (w : Heard) (middle new : View) → new ≡ finished_at most k w middle → new.offers ≡ middle.offers
+finished_offers most k w middle new is = ap (λ (v : View). v.offers) is ∙ by (is_idle_then most k w middle)
   where
-    by : (b : Bool) → (closed_unless b k (marked_as k w middle)).offers ≡ middle.offers
+    by : (b : Bool) → (closed_unless b k (marked_as most k w middle)).offers ≡ middle.offers
     by true = refl
     by false = refl
 
-pub finished_inbound : (k : ℕ) (w : Heard) (middle new : View) → new ≡ finished_at k w middle → new.inbound ≡ middle.inbound
-finished_inbound k w middle new is = ap (λ (v : View). v.inbound) is ∙ by (is_idle_then k w middle)
+pub finished_inbound : (most k : ℕ) (w : Heard) (middle new : View) → new ≡ finished_at most k w middle → new.inbound ≡ middle.inbound
+finished_inbound most k w middle new is = ap (λ (v : View). v.inbound) is ∙ by (is_idle_then most k w middle)
   where
-    by : (b : Bool) → (closed_unless b k (marked_as k w middle)).inbound ≡ middle.inbound
+    by : (b : Bool) → (closed_unless b k (marked_as most k w middle)).inbound ≡ middle.inbound
     by true = refl
     by false = refl
 

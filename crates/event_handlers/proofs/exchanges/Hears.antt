@@ -1,7 +1,6 @@
 -- An upstream's answer goes on, or is whole: what comes of it is on offer. This performs.
 use Rattle.std.proofs.Common.{◌≡◌, ℕ, Bool, true, false, ◌==◌, nat_lt, List, [], ◌∷◌, map, Some, refl, sym, ◌∙◌, ap, subst, inl, inr, if◌then◌else◌}
 use Rattle.std.proofs.lemmas.Bool.Decides.{eqb_tells}
-use Rattle.model.specs.Limits.{most_idle}
 use Rattle.model.specs.Logs.{Event, Output}
 use Rattle.model.specs.Setup.{Setup}
 use Rattle.model.specs.Tapes.Entry.{Happened}
@@ -67,20 +66,20 @@ change_as id f g (k ∷ ks) x found same = by (k.id == id) found (change_as id f
 -- ---- how far responses are
 
 -- only where no whole response was heard it isn't whole
-pending_partly : (others : ℕ) (heard : Heard) → answer_by others heard ≡ Pending → heard ≡ Partly
-pending_partly others Partly is = refl
-pending_partly others Keepable is = by (nat_lt others most_idle) is
+pending_partly : (most others : ℕ) (heard : Heard) → answer_by most others heard ≡ Pending → heard ≡ Partly
+pending_partly most others Partly is = refl
+pending_partly most others Keepable is = by (nat_lt others most) is
   where
     by : (b : Bool) → (if b then Idle else lines.Answer.Done) ≡ Pending → Keepable ≡ Partly
     by true on = cc
     by false off = cc
-pending_partly others Finished is = cc
+pending_partly most others Finished is = cc
 
 -- and only where one was the connection is idle
-idle_whole : (others : ℕ) (heard : Heard) → answer_by others heard ≡ Idle → heard ≡ Partly → ⊥
-idle_whole others Partly is e = cc
-idle_whole others Keepable is e = cc
-idle_whole others Finished is e = cc
+idle_whole : (most others : ℕ) (heard : Heard) → answer_by most others heard ≡ Idle → heard ≡ Partly → ⊥
+idle_whole most others Partly is e = cc
+idle_whole most others Keepable is e = cc
+idle_whole most others Finished is e = cc
 
 module _ (setup : Setup) (kept : View) (rest : IsAtRest kept) (run : List Move) (s : State) (leads : Leads setup run kept balanced s) (k : ℕ) (c : Connection) (found : find number_of k kept.upstreams.live ≡ Some c) (working : lines.is_idle c.live.answer ≡ false)
     (event : Event) (of : upstream_of event ≡ k) (upstream : is_of_upstream event ≡ true) (is_answer : IsAnswer event)
@@ -94,7 +93,7 @@ module _ (setup : Setup) (kept : View) (rest : IsAtRest kept) (run : List Move) 
     answered_lives = map (answer_at k answer) kept.upstreams.live
 
     abbrev pub heard_view : View
-    heard_view = record kept { offers = refilled c.live.stream box kept.offers; upstreams = record kept.upstreams { live = heard_at k heard answered_lives } }
+    heard_view = record kept { offers = refilled c.live.stream box kept.offers; upstreams = record kept.upstreams { live = heard_at setup.most_idle k heard answered_lives } }
 
     abbrev decision : Decision
     decision = Hears event c.live.stream news heard
@@ -127,15 +126,15 @@ module _ (setup : Setup) (kept : View) (rest : IsAtRest kept) (run : List Move) 
         subst (AreServed told_then) (ap (λ (r : theory_requests.State). r.held) leads.keeps.requests)
         (served_by (told_in (told_by s)) told_then (λ id. refl) s.requests.held (all_held_served setup run s leads.stands leads.so))
 
-    lives_then : lines_heard k heard (lives kept.upstreams.live) ≡ lives (heard_at k heard answered_lives)
-    lives_then = ap (lines_heard k heard) (sym (lives_same (answer_at k answer) (λ y. refl) kept.upstreams.live)) ∙ sym (lives_heard k heard answered_lives)
+    lives_then : lines_heard setup.most_idle k heard (lives kept.upstreams.live) ≡ lives (heard_at setup.most_idle k heard answered_lives)
+    lives_then = ap (lines_heard setup.most_idle k heard) (sym (lives_same (answer_at k answer) (λ y. refl) kept.upstreams.live)) ∙ sym (lives_heard setup.most_idle k heard answered_lives)
 
     requests_then : then_state.requests ≡ upstreams.with_due heard_view.upstreams Nothing
     requests_then =
         ap (λ (d : Ledger). theory_requests.after setup (told_in (summary_in d.book)) s.requests (theory_requests.Move.Hears event heard)) ledger
         ∙ ap (λ (r : theory_requests.State). theory_requests.after setup told_then r (theory_requests.Move.Hears event heard)) leads.keeps.requests
-        ∙ ap (λ (hs : List Held). record { held = hs; live = lines_heard (upstream_of event) heard (lives kept.upstreams.live); due = Nothing; count = kept.upstreams.count }) (kept_served told_then kept.upstreams.held served_then)
-        ∙ ap (λ n. record { held = kept.upstreams.held; live = lines_heard n heard (lives kept.upstreams.live); due = Nothing; count = kept.upstreams.count }) of
+        ∙ ap (λ (hs : List Held). record { held = hs; live = lines_heard setup.most_idle (upstream_of event) heard (lives kept.upstreams.live); due = Nothing; count = kept.upstreams.count }) (kept_served told_then kept.upstreams.held served_then)
+        ∙ ap (λ n. record { held = kept.upstreams.held; live = lines_heard setup.most_idle n heard (lives kept.upstreams.live); due = Nothing; count = kept.upstreams.count }) of
         ∙ ap (λ (ls : List Line). record { held = kept.upstreams.held; live = ls; due = Nothing; count = kept.upstreams.count }) lives_then
 
     offers_then : then_state.offers ≡ heard_view.offers
@@ -148,7 +147,7 @@ module _ (setup : Setup) (kept : View) (rest : IsAtRest kept) (run : List Move) 
 
     -- how far the response is
     abbrev progress : lines.Answer
-    progress = answer_by (idle_beside k (lives answered_lives)) heard
+    progress = answer_by setup.most_idle (idle_beside k (lives answered_lives)) heard
 
     -- what becomes of one
     abbrev changed : Connection → Connection
@@ -160,7 +159,7 @@ module _ (setup : Setup) (kept : View) (rest : IsAtRest kept) (run : List Move) 
       pub there : find number_of j kept.upstreams.live ≡ Some before
       pub is : changed before ≡ now
 
-    was_so : (j : ℕ) (now : Connection) → find number_of j (heard_at k heard answered_lives) ≡ Some now → WasSo j now
+    was_so : (j : ℕ) (now : Connection) → find number_of j (heard_at setup.most_idle k heard answered_lives) ≡ Some now → WasSo j now
     was_so j now is =
         let later = found_from (marked_at k progress) (λ y. refl) answered_lives j now is in
         let first = found_from (answer_at k answer) (λ y. refl) kept.upstreams.live j later.before later.there in
@@ -177,7 +176,7 @@ module _ (setup : Setup) (kept : View) (rest : IsAtRest kept) (run : List Move) 
                 let own : (y.live.k == k) ≡ true = ap (λ n. n == k) number ∙ here.0 in
                 subst (λ n. IsHeard known (Happened event ∷ tape_of run) n now.answer) (sym here.1)
                 (subst (λ (a : Answer). IsHeard known (Happened event ∷ tape_of run) k a) (sym (ap (λ b. if b then answer else y.answer) own) ∙ ap (λ (z : Connection). z.answer) from.is)
-                (stands_for (pending_partly (idle_beside k (lives answered_lives)) heard (sym (ap (λ b. if b then progress else y.live.answer) own) ∙ ap (λ (z : Connection). z.live.answer) from.is ∙ on)) known same knows.0))
+                (stands_for (pending_partly setup.most_idle (idle_beside k (lives answered_lives)) heard (sym (ap (λ b. if b then progress else y.live.answer) own) ∙ ap (λ (z : Connection). z.live.answer) from.is ∙ on)) known same knows.0))
                 )
             | inr off ↦ (
                 let other : (y.live.k == k) ≡ false = ap (λ n. n == k) number ∙ off.0 in
@@ -195,7 +194,7 @@ module _ (setup : Setup) (kept : View) (rest : IsAtRest kept) (run : List Move) 
             | inl here ↦ (
                 let own : (y.live.k == k) ≡ true = ap (λ n. n == k) number ∙ here.0 in
                 ap octets_of (sym (sym (ap (λ b. if b then answer else y.answer) own) ∙ ap (λ (z : Connection). z.answer) from.is))
-                ∙ empty (idle_whole (idle_beside k (lives answered_lives)) heard (sym (ap (λ b. if b then progress else y.live.answer) own) ∙ ap (λ (z : Connection). z.live.answer) from.is ∙ idle))
+                ∙ empty (idle_whole setup.most_idle (idle_beside k (lives answered_lives)) heard (sym (ap (λ b. if b then progress else y.live.answer) own) ∙ ap (λ (z : Connection). z.live.answer) from.is ∙ idle))
                 )
             | inr off ↦ (
                 let other : (y.live.k == k) ≡ false = ap (λ n. n == k) number ∙ off.0 in

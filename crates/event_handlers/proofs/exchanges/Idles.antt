@@ -45,11 +45,11 @@ module _ (setup : Setup) (kept : View) (rest : IsAtRest kept) (k : ℕ) (c : Con
       → Brings setup kept balanced outputs (Happened event) (closed_at k kept) balanced (put outputs (Puts (Close k)))
   closed_behind event of may is comes =
       subst (λ (cs : List Connection). Brings setup kept balanced outputs (Happened event) (record (closed_at k kept) { upstreams = record (closed_at k kept).upstreams { live = cs } }) balanced (put outputs (Puts (Close k)))) (finished_closed k Done kept.upstreams.live)
-      (brings_then setup kept (marked_as k Finished kept) (closed_at k (marked_as k Finished kept)) balanced balanced balanced outputs outputs (put outputs (Puts (Close k))) (Happened event)
+      (brings_then setup kept (marked_as 0 k Finished kept) (closed_at k (marked_as 0 k Finished kept)) balanced balanced balanced outputs outputs (put outputs (Puts (Close k))) (Happened event)
       (λ run s leads. relayed.finish setup kept rest run s leads k c found is_idle event of may is comes outputs)
-      (closes setup (marked_as k Finished kept) 0 k (λ top below. done) outputs))
+      (closes setup (marked_as 0 k Finished kept) 0 k (λ top below. done) outputs))
     where
-      done : IsDone (told_view (marked_as k Finished kept)) (marked_as k Finished kept).upstreams.live k
+      done : IsDone (told_view (marked_as 0 k Finished kept)) (marked_as 0 k Finished kept).upstreams.live k
       done = record {
         connection = marked_at k Done c;
         found = find_map number_of (marked_at k Done) (λ y. refl) k kept.upstreams.live ∙ ap (option_map (marked_at k Done)) found;

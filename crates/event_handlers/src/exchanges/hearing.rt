@@ -16,7 +16,7 @@ ghost use Rattle.event_handlers.specs.Closings.{NoneDoneBut};
 ghost use Rattle.event_handlers.specs.Comings.{ComesFrom};
 ghost use Rattle.event_handlers.specs.Inputs.Input.{OfEvent};
 ghost use Rattle.event_handlers.specs.Stopping.{IfOver};
-ghost use Rattle.event_handlers.specs.exchanges.Finishing.{closed_by, put_closed_by, verdict_by, finished_at, put_finished};
+ghost use Rattle.event_handlers.specs.exchanges.Finishing.{IsKeeping, closed_by, put_closed_by, verdict_by, finished_at, put_finished};
 
 use crate::exchanges::failing::give_up;
 use crate::exchanges::listening::{abandon, close, served_by, take_end, take_octets};
@@ -40,19 +40,20 @@ pub fn hear(
     k: u32,
     octets: &[u8],
     keep: bool,
+    most_idle: u8,
     out: &mut Outputs,
 ) -> Result<u64, Halt>
     requires opened { is_some (find number_of k session.old.upstreams.live) ≡ true }
     requires short { length octets.now ≤ 65536 }
     requires rest { IsAtRest session.old }
     requires numbered { (id : ℕ) → has session.old.inbound.rows id ≡ true → id < 2147483648 }
-    requires reached { (setup : Setup) × (keep ≡ setup.keep) × Reached setup session.old balanced }
-    ensures brings { IfOk result (λ back. (setup : Setup) → keep ≡ setup.keep
+    requires reached { (setup : Setup) × IsKeeping keep most_idle setup × Reached setup session.old balanced }
+    ensures brings { IfOk result (λ back. (setup : Setup) → IsKeeping keep most_idle setup
         → Brings setup session.old balanced out.old (Happened (Up k octets.now)) session.new (back_of back) out.new) }
     ensures none_cut { OnOk result (NoneCut session.new.offers) }
     ensures none_but { OnOk result (IfSome (find number_of k session.old.upstreams.live) (λ connection. NoneDoneBut connection.live.stream session.new)) }
     ensures numbered { OnOk result ((id : ℕ) → has session.new.inbound.rows id ≡ true → id < 2147483648) }
-    ensures over { IfErr result (λ stop. IfOver stop ((setup : Setup) → keep ≡ setup.keep
+    ensures over { IfErr result (λ stop. IfOver stop ((setup : Setup) → IsKeeping keep most_idle setup
         → ComesFrom setup session.old balanced out.old (OfEvent (Up k octets.now) ∷ []) balanced None out.new)) }
 {
     let Some(stream) = served_by(session, k) else {
@@ -63,11 +64,11 @@ pub fn hear(
         Heard::GoesOn => Ok(0),
         Heard::Keepable => {
             let verdict = verdict_for(session, stream, keep);
-            finish(session, k, verdict, out)?;
+            finish(session, k, verdict, most_idle, out)?;
             Ok(0)
         }
         Heard::Finished => {
-            finish(session, k, ResponseStage::Finished, out)?;
+            finish(session, k, ResponseStage::Finished, 0, out)?;
             Ok(0)
         }
         Heard::Failed => abandon(session, k, stream, out),
@@ -102,18 +103,20 @@ fn hear_idle(
     close(session, k, out)
 }
 
-/// The response of a connection is whole: the connection is idle, or closed.
+/// The response of a connection is whole: the connection is idle, where fewer than so many others
+/// are, or closed.
 fn finish(
     session: &mut Session,
     k: u32,
     verdict: ResponseStage,
+    most_idle: u8,
     out: &mut Outputs,
 ) -> Result<(), AllocError>
     requires opened { is_some (find number_of k session.old.upstreams.live) ≡ true }
-    ensures kept { OnOk result (session.new ≡ finished_at k (heard_of verdict) session.old) }
-    ensures puts { OnOk result (out.new ≡ put_finished k (heard_of verdict) session.old out.old) }
+    ensures kept { OnOk result (session.new ≡ finished_at most_idle k (heard_of verdict) session.old) }
+    ensures puts { OnOk result (out.new ≡ put_finished most_idle k (heard_of verdict) session.old out.old) }
 {
-    session.upstreams.mark_heard(k, verdict);
+    session.upstreams.mark_heard(k, verdict, most_idle);
     if served_by(session, k).is_none() {
         return Ok(());
     }
@@ -140,7 +143,7 @@ pub fn end(alloc: Global, session: &mut Session, k: u32, out: &mut Outputs) -> R
     };
     match take_end(alloc, session, k, stream)? {
         AnswerEnd::Complete => {
-            finish(session, k, ResponseStage::Finished, out)?;
+            finish(session, k, ResponseStage::Finished, 0, out)?;
             Ok(0)
         }
         AnswerEnd::Short => abandon(session, k, stream, out),

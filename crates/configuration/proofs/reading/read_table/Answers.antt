@@ -92,6 +92,7 @@ returns-clause-ok c =
       max_body = c.in-Some-most_in.ensures;
       max_response = c.in-Some-most_in-2.ensures;
       keep = c.in-Some-keep_in.ensures;
+      most_idle = refl;
       tables = has.0;
       are_tables = has.2;
       routes = c.in-Ok.ensures.ok has.0 has.1;

@@ -4,12 +4,13 @@ use Rattle.model.specs.Setup.{Setup}
 use Rattle.refinement.specs.View.{View, balanced}
 use Rattle.event_handlers.specs.Comings.{ComesFrom}
 use Rattle.event_handlers.specs.Inputs.Input.{OfEvent}
+use Rattle.event_handlers.specs.exchanges.Finishing.{IsKeeping}
 use Rattle.event_handlers.proofs.Results.{concluded, concluded_rests}
 use Rattle.event_handlers.proofs.hearing.hear.Goals as goal
 
 pub returns-clause-comes : goal.returns-clause-comes
 returns-clause-comes c =
-    concluded (λ (now : Option View). (setup : Setup) → c.args.keep ≡ setup.keep → ComesFrom setup c.args.session.now balanced c.args.out.now (OfEvent (Up c.args.k c.args.octets.now) ∷ []) balanced now c.hear_to_rest.new.out)
+    concluded (λ (now : Option View). (setup : Setup) → IsKeeping c.args.keep c.args.most_idle setup → ComesFrom setup c.args.session.now balanced c.args.out.now (OfEvent (Up c.args.k c.args.octets.now) ∷ []) balanced now c.hear_to_rest.new.out)
     c.hear_to_rest.new.session c.hear_to_rest.result c.conclude.result c.conclude.ensures c.hear_to_rest.ensures.comes c.hear_to_rest.ensures.over
 
 pub returns-clause-rests : goal.returns-clause-rests

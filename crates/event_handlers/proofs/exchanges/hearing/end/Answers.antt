@@ -70,7 +70,7 @@ returns-in_ok-finish-in-Complete-clause-brings c setup =
 
 pub returns-in_ok-finish-in-Complete-clause-none_cut : goal.returns-in_ok-finish-in-Complete-clause-none_cut
 returns-in_ok-finish-in-Complete-clause-none_cut c =
-    subst (λ (o : theory_responses.State). NoneCut o) (sym (finished_offers c.args.k Finished c.take_end.new.session c.finish.new.session c.in_ok-finish-in-Complete.ensures.kept))
+    subst (λ (o : theory_responses.State). NoneCut o) (sym (finished_offers 0 c.args.k Finished c.take_end.new.session c.finish.new.session c.in_ok-finish-in-Complete.ensures.kept))
     (end_none_cut c.args.session.now c.args.k c.in_ok-take_end.field-0 c.take_end.new.session c.requires.rest.none_cut c.in_ok-take_end.ensures)
 
 pub returns-in_ok-finish-in-Complete-clause-none_but : goal.returns-in_ok-finish-in-Complete-clause-none_but
@@ -80,7 +80,7 @@ returns-in_ok-finish-in-Complete-clause-none_but c =
 
 pub returns-in_ok-finish-in-Complete-clause-numbered : goal.returns-in_ok-finish-in-Complete-clause-numbered
 returns-in_ok-finish-in-Complete-clause-numbered c id there =
-    c.requires.numbered id (sym (ap (λ (i : Inbound). has i.rows id) (finished_inbound c.args.k Finished c.take_end.new.session c.finish.new.session c.in_ok-finish-in-Complete.ensures.kept ∙ ap (λ (v : View). v.inbound) c.in_ok-take_end.ensures.is)) ∙ there)
+    c.requires.numbered id (sym (ap (λ (i : Inbound). has i.rows id) (finished_inbound 0 c.args.k Finished c.take_end.new.session c.finish.new.session c.in_ok-finish-in-Complete.ensures.kept ∙ ap (λ (v : View). v.inbound) c.in_ok-take_end.ensures.is)) ∙ there)
 
 -- it is cut short
 pub returns-in-Short-clause-brings : goal.returns-in-Short-clause-brings

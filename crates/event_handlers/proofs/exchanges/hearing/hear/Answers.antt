@@ -93,22 +93,22 @@ finish-requires-in-Finished c = record { opened = taken_open c.args.session.now 
 pub returns-in_ok-finish-in-Keepable-clause-brings : goal.returns-in_ok-finish-in-Keepable-clause-brings
 returns-in_ok-finish-in-Keepable-clause-brings c setup keeps =
     let it = found_for c.args.k c.in-Some.stream c.args.session.now.upstreams.live c.served_by.result c.requires.opened c.served_by.ensures c.in-Some.is in
-    keepable_finished c.args.session.now c.requires.rest c.args.k c.args.out.now setup c.in-Some.stream it c.take_octets.new.session c.finish.new.session c.finish.new.out c.args.octets.now c.requires.short (heard_of c.verdict_for-verdict.result) c.args.keep
+    keepable_finished c.args.session.now c.requires.rest c.args.k c.args.out.now setup c.in-Some.stream it c.take_octets.new.session c.finish.new.session c.finish.new.out c.args.octets.now c.requires.short (heard_of c.verdict_for-verdict.result) c.args.keep c.args.most_idle
     (subst (λ (h : Heard). AreTaken c.args.session.now c.args.k c.args.octets.now h c.take_octets.new.session) c.in-Keepable.is c.in_ok-take_octets.ensures) c.verdict_for-verdict.ensures keeps c.in_ok-finish-in-Keepable.ensures.kept c.in_ok-finish-in-Keepable.ensures.puts
 
 pub returns-in_ok-finish-in-Keepable-clause-none_cut : goal.returns-in_ok-finish-in-Keepable-clause-none_cut
 returns-in_ok-finish-in-Keepable-clause-none_cut c =
-    subst (λ (o : theory_responses.State). NoneCut o) (sym (finished_offers c.args.k (heard_of c.verdict_for-verdict.result) c.take_octets.new.session c.finish.new.session c.in_ok-finish-in-Keepable.ensures.kept))
+    subst (λ (o : theory_responses.State). NoneCut o) (sym (finished_offers c.args.most_idle c.args.k (heard_of c.verdict_for-verdict.result) c.take_octets.new.session c.finish.new.session c.in_ok-finish-in-Keepable.ensures.kept))
     (taken_none_cut c.args.session.now c.args.k c.args.octets.now c.in_ok-take_octets.field-0 c.take_octets.new.session c.requires.rest.none_cut c.in_ok-take_octets.ensures)
 
 pub returns-in_ok-finish-in-Keepable-clause-none_but : goal.returns-in_ok-finish-in-Keepable-clause-none_but
 returns-in_ok-finish-in-Keepable-clause-none_but c =
     if_any (find number_of c.args.k c.args.session.now.upstreams.live) c.finish.new.session
-    (taken_finished_none c.args.session.now c.args.k c.args.octets.now c.in_ok-take_octets.field-0 (heard_of c.verdict_for-verdict.result) c.take_octets.new.session c.finish.new.session c.requires.rest.none_done c.in_ok-take_octets.ensures c.in_ok-finish-in-Keepable.ensures.kept)
+    (taken_finished_none c.args.session.now c.args.most_idle c.args.k c.args.octets.now c.in_ok-take_octets.field-0 (heard_of c.verdict_for-verdict.result) c.take_octets.new.session c.finish.new.session c.requires.rest.none_done c.in_ok-take_octets.ensures c.in_ok-finish-in-Keepable.ensures.kept)
 
 pub returns-in_ok-finish-in-Keepable-clause-numbered : goal.returns-in_ok-finish-in-Keepable-clause-numbered
 returns-in_ok-finish-in-Keepable-clause-numbered c id there =
-    c.requires.numbered id (sym (ap (λ (i : Inbound). has i.rows id) (finished_inbound c.args.k (heard_of c.verdict_for-verdict.result) c.take_octets.new.session c.finish.new.session c.in_ok-finish-in-Keepable.ensures.kept ∙ ap (λ (v : View). v.inbound) c.in_ok-take_octets.ensures.is)) ∙ there)
+    c.requires.numbered id (sym (ap (λ (i : Inbound). has i.rows id) (finished_inbound c.args.most_idle c.args.k (heard_of c.verdict_for-verdict.result) c.take_octets.new.session c.finish.new.session c.in_ok-finish-in-Keepable.ensures.kept ∙ ap (λ (v : View). v.inbound) c.in_ok-take_octets.ensures.is)) ∙ there)
 
 -- and the connection isn't kept
 pub returns-in_ok-finish-in-Finished-clause-brings : goal.returns-in_ok-finish-in-Finished-clause-brings
@@ -119,17 +119,17 @@ returns-in_ok-finish-in-Finished-clause-brings c setup keeps =
 
 pub returns-in_ok-finish-in-Finished-clause-none_cut : goal.returns-in_ok-finish-in-Finished-clause-none_cut
 returns-in_ok-finish-in-Finished-clause-none_cut c =
-    subst (λ (o : theory_responses.State). NoneCut o) (sym (finished_offers c.args.k Finished c.take_octets.new.session c.finish-in-Finished.new.session c.in_ok-finish-in-Finished.ensures.kept))
+    subst (λ (o : theory_responses.State). NoneCut o) (sym (finished_offers 0 c.args.k Finished c.take_octets.new.session c.finish-in-Finished.new.session c.in_ok-finish-in-Finished.ensures.kept))
     (taken_none_cut c.args.session.now c.args.k c.args.octets.now c.in_ok-take_octets.field-0 c.take_octets.new.session c.requires.rest.none_cut c.in_ok-take_octets.ensures)
 
 pub returns-in_ok-finish-in-Finished-clause-none_but : goal.returns-in_ok-finish-in-Finished-clause-none_but
 returns-in_ok-finish-in-Finished-clause-none_but c =
     if_any (find number_of c.args.k c.args.session.now.upstreams.live) c.finish-in-Finished.new.session
-    (taken_finished_none c.args.session.now c.args.k c.args.octets.now c.in_ok-take_octets.field-0 Finished c.take_octets.new.session c.finish-in-Finished.new.session c.requires.rest.none_done c.in_ok-take_octets.ensures c.in_ok-finish-in-Finished.ensures.kept)
+    (taken_finished_none c.args.session.now 0 c.args.k c.args.octets.now c.in_ok-take_octets.field-0 Finished c.take_octets.new.session c.finish-in-Finished.new.session c.requires.rest.none_done c.in_ok-take_octets.ensures c.in_ok-finish-in-Finished.ensures.kept)
 
 pub returns-in_ok-finish-in-Finished-clause-numbered : goal.returns-in_ok-finish-in-Finished-clause-numbered
 returns-in_ok-finish-in-Finished-clause-numbered c id there =
-    c.requires.numbered id (sym (ap (λ (i : Inbound). has i.rows id) (finished_inbound c.args.k Finished c.take_octets.new.session c.finish-in-Finished.new.session c.in_ok-finish-in-Finished.ensures.kept ∙ ap (λ (v : View). v.inbound) c.in_ok-take_octets.ensures.is)) ∙ there)
+    c.requires.numbered id (sym (ap (λ (i : Inbound). has i.rows id) (finished_inbound 0 c.args.k Finished c.take_octets.new.session c.finish-in-Finished.new.session c.in_ok-finish-in-Finished.ensures.kept ∙ ap (λ (v : View). v.inbound) c.in_ok-take_octets.ensures.is)) ∙ there)
 
 -- it fails
 pub returns-in-Failed-clause-brings : goal.returns-in-Failed-clause-brings

@@ -33,4 +33,4 @@ returns-in-UpTook-clause-happens c =
 pub returns-in-Up-clause-happens : goal.returns-in-Up-clause-happens
 returns-in-Up-clause-happens c =
     rw (← c.self.view_is) (if_ok c.hear.result
-    (λ went comes. hears_by _ c.hear.new.session went c.args.out.now c.hear.new.out (Up c.in-Up.k c.deref-in-Up.result.now) (event_of c.args.event.now) (ap event_of c.in-Up.is ∙ ap (Up c.in-Up.k) (sym c.deref-in-Up.ensures.value)) refl (λ setup serves. comes setup serves.keep)) c.hear.ensures.comes)
+    (λ went comes. hears_by _ c.hear.new.session went c.args.out.now c.hear.new.out (Up c.in-Up.k c.deref-in-Up.result.now) (event_of c.args.event.now) (ap event_of c.in-Up.is ∙ ap (Up c.in-Up.k) (sym c.deref-in-Up.ensures.value)) refl (λ setup serves. comes setup (serves.keep, serves.most_idle))) c.hear.ensures.comes)

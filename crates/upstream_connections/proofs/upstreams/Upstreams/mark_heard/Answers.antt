@@ -1,6 +1,5 @@
-use Rattle.std.proofs.Common.{◌≡◌, ◌<◌, List, true, length, refl, sym, ◌∙◌, ap, subst}
+use Rattle.std.proofs.Common.{◌≡◌, ◌<◌, List, true, length, refl, sym, ◌∙◌, ap, subst, arith}
 use Rattle.std.specs.Prelude.{suc, reverse, map}
-use Rattle.model.specs.Limits.{most_idle}
 use Rattle.theory_requests.specs.Lines.{find, idle_beside, answer_by}
 use Rattle.upstream_connections.specs.Connections.{Connection, number_of, AreBelow, lives, marked_at, is_idle_one, among}
 use Rattle.upstream_connections.specs.Kept.{State}
@@ -12,11 +11,13 @@ use Rattle.upstream_connections.proofs.upstreams.Upstreams.mark_heard.Goals as g
 pub enter-requires : goal.enter-requires
 enter-requires c =
     let old = c.self.inside.connections.items in
-    let changed : reverse c.mark.new.connections.items ≡ map (marked_at c.args.k (answer_by c.len.result (heard_of c.args.verdict))) (reverse old) =
+    let changed : reverse c.mark.new.connections.items ≡ map (marked_at c.args.k (answer_by c.args.most_idle c.len.result (heard_of c.args.verdict))) (reverse old) =
     c.mark.ensures.marked ∙ ap (λ a. map (marked_at c.args.k a) (reverse old)) c.progress-progress.ensures in
-    let on : is_idle_one (find number_of c.args.k (map (marked_at c.args.k (answer_by c.len.result (heard_of c.args.verdict))) (reverse old))) ≡ true =
+    let on : is_idle_one (find number_of c.args.k (map (marked_at c.args.k (answer_by c.args.most_idle c.len.result (heard_of c.args.verdict))) (reverse old))) ≡ true =
     sym (ap (λ cs. is_idle_one (find number_of c.args.k cs)) changed) ∙ sym c.mark.ensures.idle ∙ c.if-mark.true in
-    subst (λ n. n < most_idle) c.len.ensures.value (heard_room c.args.k c.len.result (heard_of c.args.verdict) (reverse old) on)
+    let fits = heard_room c.args.most_idle c.args.k c.len.result (heard_of c.args.verdict) (reverse old) on in
+    let most = c.ranges.most_idle in
+    subst (λ n. n < 255) c.len.ensures.value (omega (arith, fits, most))
 
 pub invariant_of-self : goal.invariant_of-self
 invariant_of-self c = record {
@@ -41,7 +42,7 @@ returns-then-mark c =
     let counted : c.len.result ≡ idle_beside c.args.k (lives (reverse old)) = c.len.ensures.value ∙ ap length c.strike.ensures ∙ count_beside old old c.self.inside.idle.items c.self.invariant.idle_are c.args.k in
     rw (← c.self.view_is)
     (ap (λ (cs : List Connection). let s : State = record { held = reverse c.self.inside.held.items; live = cs; count = c.self.inside.count } in s)
-    (c.mark.ensures.marked ∙ ap (λ a. map (marked_at c.args.k a) (reverse old)) (c.progress-progress.ensures ∙ ap (λ n. answer_by n (heard_of c.args.verdict)) counted)))
+    (c.mark.ensures.marked ∙ ap (λ a. map (marked_at c.args.k a) (reverse old)) (c.progress-progress.ensures ∙ ap (λ n. answer_by c.args.most_idle n (heard_of c.args.verdict)) counted)))
 
 pub returns-else-mark : goal.returns-else-mark
 returns-else-mark c =
@@ -49,4 +50,4 @@ returns-else-mark c =
     let counted : c.len.result ≡ idle_beside c.args.k (lives (reverse old)) = c.len.ensures.value ∙ ap length c.strike.ensures ∙ count_beside old old c.self.inside.idle.items c.self.invariant.idle_are c.args.k in
     rw (← c.self.view_is)
     (ap (λ (cs : List Connection). let s : State = record { held = reverse c.self.inside.held.items; live = cs; count = c.self.inside.count } in s)
-    (c.mark.ensures.marked ∙ ap (λ a. map (marked_at c.args.k a) (reverse old)) (c.progress-progress.ensures ∙ ap (λ n. answer_by n (heard_of c.args.verdict)) counted)))
+    (c.mark.ensures.marked ∙ ap (λ a. map (marked_at c.args.k a) (reverse old)) (c.progress-progress.ensures ∙ ap (λ n. answer_by c.args.most_idle n (heard_of c.args.verdict)) counted)))

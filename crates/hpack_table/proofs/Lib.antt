@@ -6,3 +6,4 @@ pub mod Looked
 pub mod Popped
 pub mod Searched
 pub mod Walked
+mod HeldInside

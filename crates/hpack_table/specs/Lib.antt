@@ -5,3 +5,4 @@ pub mod Searching
 pub mod Chaining
 pub mod Indexing
 pub mod Ringed
+pub mod HeldInside

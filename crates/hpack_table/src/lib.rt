@@ -13,6 +13,7 @@ mod chains;
 mod field;
 mod found;
 mod index;
+pub mod laws;
 mod ring;
 mod static_table;
 mod table;

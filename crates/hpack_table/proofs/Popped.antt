@@ -1,5 +1,6 @@
 -- The oldest field, which is taken out of a ring.
-use Rattle.std.proofs.Common.{◌≡◌, ℕ, zero, suc, ◌-◌, List, [], ◌∷◌, ◌++◌, length, take, slice_get, Option, Some, None, refl, ap, sym, ◌∙◌, arith}
+use Rattle.std.proofs.Common.{◌≡◌, ℕ, zero, suc, ◌+◌, ◌-◌, ◌≤◌, List, [], ◌∷◌, ◌++◌, length, take, slice_get, Option, Some, None, refl, ap, sym, ◌∙◌, arith}
+use Rattle.std.proofs.lemmas.List.{length-append, take_all}
 use Rattle.std.proofs.lemmas.Option.{slice_get-get_or}
 use Rattle.std.specs.Prelude.{MatchOption}
 use Rattle.circular_buffer.specs.Buffer.{last_item}
@@ -25,3 +26,11 @@ popped None old new last rest =
     (none, rest ∙ ap (λ (fields : List Field). take (length fields - 1) fields) none)
 popped (Some oldest) [] new last rest = cc
 popped (Some oldest) (field ∷ fields) new last rest = last_split (field ∷ fields) (length (field ∷ fields) - 1) oldest (omega arith) last ∙ ap (λ front. front ++ oldest ∷ []) (sym rest)
+
+-- where the newest takes the place of the oldest, all that were there have room with it
+pub turned : (capacity : ℕ) (field oldest : Field) (old rest new : List Field) → old ≡ rest ++ oldest ∷ [] → length old ≤ capacity → new ≡ take capacity (field ∷ rest)
+    → field ∷ old ≡ new ++ oldest ∷ []
+turned capacity field oldest old rest new is within kept =
+    let parts : length old ≡ length rest + 1 = ap length is ∙ length-append rest (oldest ∷ []) in
+    let all : take capacity (field ∷ rest) ≡ field ∷ rest = take_all capacity (field ∷ rest) (omega (arith, parts, within)) in
+    ap (λ fields. field ∷ fields) is ∙ ap (λ front. front ++ oldest ∷ []) (sym (kept ∙ all))

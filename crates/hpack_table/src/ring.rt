@@ -11,7 +11,7 @@ use std::marker::Model;
 const FIRST_CAPACITY: usize = 8;
 
 /// A ring of fields in one block. The first insertion makes the block, and one that finds it full
-/// makes it larger. A clause sees the fields, the newest first.
+/// makes it larger, unless the oldest field goes with it. A clause sees the fields, the newest first.
 #[derive(Drop)]
 pub struct Ring {
     /// None before the first insertion.
@@ -83,6 +83,24 @@ impl Ring {
             return None;
         };
         buffer.pop_back()
+    }
+
+    /// Adds a field as the newest, and answers the oldest of all, which it takes out. It takes no
+    /// memory.
+    pub fn turn(&mut self, field: Field) -> Field
+        ensures { field ∷ self.old ≡ self.new ++ result ∷ [] }
+    {
+        let Some(buffer) = &mut self.buffer else {
+            return field;
+        };
+        if buffer.len() == 0 {
+            return field;
+        }
+        let Some(oldest) = buffer.pop_back() else {
+            unreachable!();
+        };
+        buffer.push_front(field);
+        oldest
     }
 
     /// Drops all fields, and their block.

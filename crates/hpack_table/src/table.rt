@@ -1,6 +1,6 @@
 //! The table of a direction.
 
-ghost use Rattle.std.specs.Prelude.{◌≡◌, ◌<◌, ◌^◌, ◌≤◌, [], length, OnSome, Some, None, MatchOption, OnOk, OnErr};
+ghost use Rattle.std.specs.Prelude.{◌≡◌, ◌<◌, ◌^◌, ◌≤◌, [], ◌∷◌, length, OnSome, Some, None, MatchOption, OnOk, OnErr, IfOk};
 ghost use Rattle.model.specs.Tables.{added, field_of, keep, look_up, resized, total_size};
 ghost use Rattle.hpack_table.specs.Finding.{Finds};
 ghost use Rattle.hpack_table.specs.Searching.{Seeks, table_of};
@@ -107,11 +107,12 @@ impl Table {
             return Ok(());
         };
         enter(&mut self.index, &field)?;
-        if self.fields.push_front(field).is_err() {
+        let size = self.size + (maximum - room);
+        let Ok(size) = insert(&mut self.fields, field, size, maximum) else {
             self.index = None;
             return Err(AllocError);
-        }
-        self.size = evict(&mut self.fields, self.size + (maximum - room), maximum);
+        };
+        self.size = evict(&mut self.fields, size, maximum);
         shorten(&mut self.index, self.fields.len());
         Ok(())
     }
@@ -159,6 +160,27 @@ fn find_added(fields: &Ring, name: &[u8], value: &[u8], found: Found) -> Found
         place += 1;
     }
     found
+}
+
+/// Adds a field as the newest, where the sizes of all sum to this with it. Where that is over the
+/// maximum, it takes the place of the oldest, and no memory is taken for it. It answers what the
+/// sizes sum to then. An `Err` says that memory was refused; it changes nothing and drops the field.
+fn insert(fields: &mut Ring, field: Field, size: usize, maximum: usize) -> Result<usize, AllocError>
+    requires { size ≡ total_size (field ∷ fields.old) }
+    ensures kept { OnOk result (keep maximum fields.new ≡ keep maximum (field ∷ fields.old)) }
+    ensures size { IfOk result (λ sum. sum ≡ total_size fields.new) }
+    ensures nothing { OnErr result (fields.new ≡ fields.old) }
+    ensures all_fit { OnErr result (size ≤ maximum) }
+{
+    if size <= maximum {
+        fields.push_front(field)?;
+        return Ok(size);
+    }
+    let oldest = fields.turn(field);
+    match oldest.room_behind(size) {
+        Some(rest) => Ok(rest),
+        None => unreachable!(),
+    }
 }
 
 /// Takes the oldest fields out until the sizes of the others sum to at most the maximum, and answers their sum.

@@ -1,6 +1,7 @@
 pub mod Newest
 pub mod Asking
 pub mod Few
+pub mod Acts
 pub mod Opens
 pub mod Sends
 pub mod Coming

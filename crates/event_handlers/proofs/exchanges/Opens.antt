@@ -1,6 +1,6 @@
 -- A connection that is due is opened, and its text goes out there: this performs.
 use Rattle.std.proofs.Common.{◌≡◌, ℕ, suc, ◌+◌, ◌<◌, Bool, true, false, not, ◌==◌, ◌&&◌, ◌||◌, List, [], ◌∷◌, ◌++◌, map, length, Option, Some, None, codes, refl, sym, ◌∙◌, ap, subst, inl, inr, if◌then◌else◌, arith}
-use Rattle.std.specs.Prelude.{is_none, is_some, option_map, nat_lt}
+use Rattle.std.specs.Prelude.{is_none, nat_lt, IfSome}
 use Rattle.std.specs.List.{list_any}
 use Rattle.std.proofs.lemmas.Bool.{eq-eqb, eqb-true, ltb-true, ne_eqb, and_parts}
 use Rattle.std.proofs.lemmas.Bool.Decides.{eqb_tells}
@@ -13,7 +13,7 @@ use Rattle.model.specs.Setup.Passing.{Whole as WholePassing, Streaming}
 use Rattle.model.specs.Tapes.{Entry, put}
 use Rattle.model.specs.Tapes.Entry.{Did}
 use Rattle.model.specs.Causes.{is_front_of, Cause}
-use Rattle.model.specs.Openings.{Opened, opens, exchanges, exchange_on, given, route_of, last_stream, connection_of, begins_another, IsGivenNone}
+use Rattle.model.specs.Openings.{Opened, opens, exchanges, exchange_on, given, route_of, last_stream, connection_of, IsGivenNone}
 use Rattle.model.specs.Messages.{Item}
 use Rattle.model.specs.Known.{Known}
 use Rattle.model.specs.Lifetimes.{opened, is_opened, is_active}
@@ -25,7 +25,7 @@ use Rattle.model.proofs.ItemLaws.{head_stays}
 use Rattle.model.proofs.ExchangeLaws.{unheard}
 use Rattle.theory_errors.specs.Summary.{summary_of}
 use Rattle.theory_errors.specs.Rule.{AreKnown}
-use Rattle.theory_errors.specs.Book.{Book, Ledger, ledger_after, ledger_of, summary_in}
+use Rattle.theory_errors.specs.Book.{Book, ledger_of, summary_in}
 use Rattle.theory_errors.specs.Told as theory_errors
 use Rattle.theory_errors.proofs.Telling.{book_told}
 use Rattle.theory_receive_windows.specs.Policy as windows
@@ -37,58 +37,54 @@ use Rattle.h1_writer.specs.Sending.{Stage}
 use Rattle.theory_responses.specs.Sight.{sight_in}
 use Rattle.upstream_response.specs.Waiting.{passing_in}
 use Rattle.upstream_response.specs.declared.answer.ResponsePassing.{ResponsePassing}
-use Rattle.window_credit.specs.Sides.{Side, is_above_all}
+use Rattle.window_credit.specs.Sides.{Side, is_above_all, change, putting}
 use Rattle.window_credit.specs.Sides.{find as find_side, opened as opened_side}
 use Rattle.window_credit.specs.Standing.{newest_with}
-use Rattle.window_credit.proofs.Looking.{above_all, joined_own}
+use Rattle.window_credit.proofs.Looking.{above_all}
 use Rattle.streams.specs.Asked as asked
 use Rattle.theory_requests.specs.State as theory_requests
 use Rattle.theory_requests.specs.Lines as lines
-use Rattle.theory_requests.specs.Lines.{Line, line_of, find}
+use Rattle.theory_requests.specs.Lines.{Line, find}
 use Rattle.theory_requests.specs.Written.{IsWritten}
 use Rattle.theory_requests.specs.State.{Held, held_with, unless_whole}
 use Rattle.theory_requests.specs.State.Way.{Going}
-use Rattle.theory_requests.specs.State.Due.{Nothing, ToOpen, ToSend}
+use Rattle.theory_requests.specs.State.Due.{ToOpen, ToSend}
 use Rattle.theory_requests.specs.Rule as requests
 use Rattle.theory_requests.specs.Rule.{is_done}
-use Rattle.theory_requests.proofs.Lists.{found_key, find_map}
 use Rattle.theory_requests.proofs.Numbers.{within_opened}
 use Rattle.theory_requests.proofs.Starting.{active_some, given_none_in}
-use Rattle.model.proofs.AloneLaws.{none_begins}
 use Rattle.theory_requests.proofs.Standing as standing
 use Rattle.theory_requests.proofs.Standing.{IsStarting, IsDue}
-use Rattle.connection_state.specs.Inbound.{book_of}
-use Rattle.connection_state.proofs.SendingEvents.{opens_lead, puts_lead, did_ledger}
 use Rattle.upstream_connections.specs.Kept as upstreams
 use Rattle.upstream_connections.specs.Kept.{opened_for}
 use Rattle.upstream_connections.specs.Connections.{Connection, number_of, lives, put_at, fresh}
 use Rattle.upstream_connections.specs.Connections as connections
-use Rattle.theory.specs.Moves.{Decision, Move, conduct_of, told_in, window_of, sent_or_used}
+use Rattle.theory.specs.Moves.{Decision, Move, told_in}
 use Rattle.theory.specs.Moves.Decision.{Acts}
 use Rattle.theory.specs.Moves.Move.{Does}
 use Rattle.theory.specs.State.{State, conducts, tape_of}
 use Rattle.theory.specs.Rule.{rooms_in}
-use Rattle.theory.specs.Steps.{told_by, told_behind, next, MayGoOn, Stands}
-use Rattle.theory.proofs.Going.{may_act}
-use Rattle.theory.proofs.Stepping.{one_more}
+use Rattle.theory.specs.Steps.{told_by, told_behind, next}
 use Rattle.theory.proofs.Telling.{all_moved}
-use Rattle.refinement.specs.View.{View, Pending, balanced, newest_in, Keeps, AreMarked, Leads, AreSo, AreHeard}
+use Rattle.refinement.specs.View.{View, Pending, balanced, newest_in, AreMarked, Leads, AreHeard}
 use Rattle.refinement.specs.Hearing.{IsSetUp, IsHeard}
 use Rattle.refinement.specs.Rest.{told_view}
 use Rattle.refinement.specs.Bringing.{OwnSegment, PerformsOwn}
+use Rattle.refinement.proofs.Bringing.{own_then}
 use Rattle.refinement.proofs.Connected.{none_connected}
 use Rattle.refinement.proofs.Giving.{heard_fresh}
 use Rattle.refinement.proofs.Lives.{lives_same}
-use Rattle.refinement.proofs.Marking.{rooms_next, marked_opened, marked_opened_beside, marked_put, marked_put_beside}
+use Rattle.refinement.proofs.Marking.{marked_opened, marked_opened_beside}
 use Rattle.refinement.proofs.Newest.{due_newest}
-use Rattle.model.proofs.AloneLaws.{same_exchanges}
 use Rattle.refinement.proofs.Sound as sound
-use Rattle.refinement.proofs.Staying.{so_stays, heard_stays, heard_of_changed, heard_by_entry, open_begun, calm_before, rows_kept}
+use Rattle.refinement.proofs.Staying.{heard_by_entry, open_begun, calm_before}
 use Rattle.event_handlers.specs.Closings.{told_but, NoneDoneBut}
 use Rattle.event_handlers.specs.Resting.{IsPassedBy}
 use Rattle.event_handlers.specs.exchanges.Opening.{with_side}
 use Rattle.event_handlers.proofs.exchanges.Asking.{asked_is}
+use Rattle.event_handlers.proofs.exchanges.Acts as acts
 use Rattle.event_handlers.proofs.exchanges.Few.{few_given, no_more_opened, nothing_put}
+use Rattle.event_handlers.proofs.exchanges.Sends.{calls_send}
 use Rattle.refinement.proofs.Where.{led_to, own, own_led, right_here, stands_here, windows_here, live_here}
 
 -- ---- whether the request asks for a head
@@ -119,6 +115,11 @@ none_above id (side ∷ sides) above = by (side.id == id) refl (none_above id si
     by true is rest = let less : side.id < id = ltb-true side.id id parts.0 in let same = eqb-true side.id id is in absurd (omega (arith, less, same))
     by false apart rest = rest parts.1
 
+-- the sides where a connection was opened for a stream, and nothing was put out for it yet
+abbrev pub with_opened : Way → ℕ → ℕ → List Side → List Side
+with_opened WholePassing stream k sides = sides
+with_opened Streaming stream k sides = sides ++ opened_side stream k 0 0 ∷ []
+
 -- ---- rows of windows
 
 debt_same : (b : Bool) (k : ℕ) (r : theory_receive_windows.Row) → (if b then theory_receive_windows.given k r else r).debt ≡ r.debt
@@ -130,12 +131,12 @@ module _ (setup : Setup) (kept : View) (fresh_octets back stream route : ℕ) (t
   abbrev pub due_before : Pending
   due_before = record balanced { due = ToOpen stream route text stage; fresh = fresh_octets; shared = back }
 
-  abbrev pub due_behind : Pending
-  due_behind = record balanced { fresh = fresh_octets; shared = back }
-
   -- the number of the connection
   abbrev pub number : ℕ
   number = suc kept.upstreams.count
+
+  abbrev pub due_behind : Pending
+  due_behind = record balanced { due = ToSend number text; fresh = fresh_octets; shared = back }
 
   module _ (run : List Move) (s : State) (leads : Leads setup run kept due_before s) where
     abbrev t : List Entry
@@ -202,9 +203,6 @@ module _ (setup : Setup) (kept : View) (fresh_octets back stream route : ℕ) (t
     abbrev given_one : List Opened
     given_one = record { k = number; route = route; stream = s.ledger.book.last } ∷ s.ledger.book.given
 
-    ledger_one : ledger_after setup s.ledger (conduct_of first) ≡ record { book = record s.ledger.book { given = given_one }; queue = s.ledger.queue }
-    ledger_one = did_ledger setup false s.ledger (Open number route) (record s.ledger.book { given = given_one }) [] (opens_lead setup s.ledger.book number route (rows_kept setup run s leads.stands))
-
     may_open : requests.MayOpen s.requests number route
     may_open = record { stream = stream; text = text; stage = stage; due = due_is; next = ap suc (sym count_is) }
 
@@ -232,19 +230,6 @@ module _ (setup : Setup) (kept : View) (fresh_octets back stream route : ℕ) (t
       untaken = none_taken;
     }
 
-    may_one : MayGoOn setup s (Does first)
-    may_one = (
-      ap (λ (d : Ledger). d.book.ends) ledger_one ∙ leads.stands.goes_on,
-      may_act setup (told_behind setup s first) s (Open number route) (ap (λ (b : Book). b.closed) leads.keeps.book)
-          (record { nothing = leads.keeps.owed; begins = sound.opens_next (own setup run s leads.stands leads.so) run s (own_led setup run s leads.stands leads.so) number route may_open; due = may_open; window = window }),
-    )
-
-    stands_one : Stands setup (Does first ∷ run) one
-    stands_one = one_more setup run s (Does first) leads.stands may_one
-
-    so_one : AreSo setup (Does first ∷ run)
-    so_one = so_stays setup run first tt leads.so
-
     abbrev new_line : Line
     new_line = record { k = number; route = route; stream = stream; answer = lines.Answer.Pending }
 
@@ -254,50 +239,6 @@ module _ (setup : Setup) (kept : View) (fresh_octets back stream route : ℕ) (t
 
     requests_one : one.requests ≡ record { held = held_then; live = new_line ∷ lives kept.upstreams.live; due = ToSend number text; count = number }
     requests_one = ap (λ (r : theory_requests.State). theory_requests.after setup (told_in (told_behind setup s first)) r (theory_requests.Move.Acts (Open number route))) leads.keeps.requests
-
-    -- ---- its text goes out
-
-    -- the connection is given to the stream of the last frame
-    its_one : given number one.ledger.book.given ≡ one.ledger.book.last
-    its_one =
-        ap (λ (d : Ledger). given number d.book.given) ledger_one
-        ∙ ap (λ b. if b then s.ledger.book.last else given number s.ledger.book.given) (eq-eqb number number refl)
-        ∙ sym (ap (λ (d : Ledger). d.book.last) ledger_one)
-
-    abbrev second : Decision
-    second = Acts (ToUp number text)
-
-    abbrev two : State
-    two = next setup one (Does second)
-
-    ledger_two : ledger_after setup one.ledger (conduct_of second) ≡ record { book = one.ledger.book; queue = one.ledger.queue }
-    ledger_two =
-        did_ledger setup false one.ledger (ToUp number text) _ [] (puts_lead setup one.ledger.book number text (rows_kept setup (Does first ∷ run) one stands_one))
-        ∙ ap (λ (os : List Opened). record { book = record one.ledger.book { given = os }; queue = one.ledger.queue })
-        (ap (λ b. if b then record { k = number; route = route_of number one.ledger.book.given; stream = one.ledger.book.last } ∷ one.ledger.book.given else one.ledger.book.given) (none_begins (given number one.ledger.book.given) one.ledger.book.last text its_one))
-
-    closed_one : one.ledger.book.closed ≡ false
-    closed_one = ap (λ (d : Ledger). d.book.closed) ledger_one ∙ ap (λ (b : Book). b.closed) leads.keeps.book
-
-    may_two : MayGoOn setup one (Does second)
-    may_two = (
-      ap (λ (d : Ledger). d.book.ends) ledger_two ∙ stands_one.goes_on,
-      may_act setup (told_behind setup one second) one (ToUp number text) closed_one (inl (record {
-        nothing = ap (λ (d : Ledger). d.queue) ledger_one ∙ leads.keeps.owed;
-        due = ap (λ (r : theory_requests.State). r.due) requests_one;
-        window = record {
-          opened = ap (λ (r : theory_requests.State). is_some (line_of number r.live)) requests_one ∙ ap (λ b. is_some (if b then Some new_line else line_of number (lives kept.upstreams.live))) (eq-eqb number number refl);
-          its = its_one;
-          in_effect = λ streaming. leads.in_effect;
-        };
-      })),
-    )
-
-    requests_two : two.requests ≡ record { held = held_then; live = new_line ∷ lives kept.upstreams.live; due = Nothing; count = number }
-    requests_two = ap (λ (r : theory_requests.State). theory_requests.after setup (told_in (told_behind setup one second)) r (theory_requests.Move.Acts (ToUp number text))) requests_one
-
-    book_two : two.ledger.book ≡ record s.ledger.book { given = given_one }
-    book_two = ap (λ (d : Ledger). d.book) ledger_two ∙ ap (λ (d : Ledger). d.book) ledger_one
 
     -- ---- what was heard
 
@@ -370,46 +311,11 @@ module _ (setup : Setup) (kept : View) (fresh_octets back stream route : ℕ) (t
             let on : is_active 0 t ≡ true = sym (live_among setup.passing t windows_before 0 rooms.keeping) ∙ leads.marked.stand.live 0 side (ap (λ n. find_side n kept.marks) (sym ungiven) ∙ found) in
             absurd (active_some 0 t on refl)
 
-    abbrev windows_opened : theory_receive_windows.State
-    windows_opened = theory_receive_windows.with_act windows_before (Open number route)
-
-    abbrev newest_then : ℕ → ℕ
-    newest_then = newest_with number windows_before.stream (newest_in s)
-
-    its_newest : newest_then number ≡ stream
-    its_newest = ap (λ b. if b then windows_before.stream else newest_in s number) (eq-eqb number number refl) ∙ last_is
-
-    marked_by : (p : Way) → setup.passing ≡ p → AreMarked setup.passing newest_then (with_side p stream number (length text) kept.marks) (theory_receive_windows.with_act windows_opened (ToUp number text))
-    marked_by WholePassing is =
-        marked_put_beside setup.passing newest_then kept.marks windows_opened (marked_opened_beside setup.passing (newest_in s) kept.marks windows_before leads.marked number route is) number text
-        (λ side found. absurd (let no : ◌≡◌ {A = Option Side} None (Some side) = ap (λ (sides : List Side). find_side (newest_then number) sides) (sym (leads.marked.none is)) ∙ found in let clash : ◌≡◌ {A = Option Side} None (Some side) = no in cc))
+    marked_by : (p : Way) → setup.passing ≡ p → AreMarked setup.passing (newest_with number windows_before.stream (newest_in s)) (with_opened p stream number kept.marks) (theory_receive_windows.with_act windows_before (Open number route))
+    marked_by WholePassing is = marked_opened_beside setup.passing (newest_in s) kept.marks windows_before leads.marked number route is
     marked_by Streaming is =
-        let opened_here : AreMarked setup.passing newest_then (kept.marks ++ opened_side stream number 0 0 ∷ []) windows_opened =
-        subst (λ n. AreMarked setup.passing newest_then (kept.marks ++ opened_side n number 0 0 ∷ []) windows_opened) last_is
-        (marked_opened setup.passing (newest_in s) kept.marks windows_before leads.marked number route (omega arith) is window.active (ap (λ n. find_side n kept.marks) last_is ∙ no_side_kept) nobody none_out none_taken) in
-        marked_put setup.passing newest_then (kept.marks ++ opened_side stream number 0 0 ∷ []) windows_opened opened_here number stream text (opened_side stream number 0 0) (joined_own (opened_side stream number 0 0) kept.marks no_side_kept) refl its_newest
-
-    -- no exchange begins with the text
-    none_begun : begins_another (given number one.ledger.book.given) one.ledger.book.last text ≡ false
-    none_begun = none_begins (given number one.ledger.book.given) one.ledger.book.last text its_one
-
-    abbrev windows_end : theory_receive_windows.Kept
-    windows_end = theory_receive_windows.kept_of (theory_receive_windows.with_act (rooms_in (told_by one) one) (ToUp number text))
-
-    windows_two : two.windows ≡ windows_end
-    windows_two = ap (λ b. theory_receive_windows.kept_of (theory_receive_windows.after setup.passing (rooms_in (told_by one) one) (sent_or_used b number text))) none_begun
-
-    marked_two : AreMarked setup.passing (newest_in two) (with_side setup.passing stream number (length text) kept.marks) (rooms_in (told_by two) two)
-    marked_two =
-        subst (λ (os : List Opened). AreMarked setup.passing (λ j. given j os) (with_side setup.passing stream number (length text) kept.marks) (rooms_in (told_by two) two)) (sym (ap (λ (b : Book). b.given) book_two))
-        (subst (AreMarked setup.passing newest_then (with_side setup.passing stream number (length text) kept.marks))
-        (sym (rooms_next setup (Does first ∷ run) one stands_one so_one second may_two (so_stays setup (Does first ∷ run) second tt so_one)
-        ∙ put_windows
-        ∙ ap (λ (x : theory_receive_windows.State). theory_receive_windows.with_act x (ToUp number text)) (rooms_next setup run s leads.stands leads.so first may_one so_one)))
-        (marked_by setup.passing refl))
-      where
-        put_windows : theory_receive_windows.after setup.passing (rooms_in (told_by one) one) (window_of (sight_in (told_by one)) (sight_in (told_behind setup one second)) second) ≡ theory_receive_windows.with_act (rooms_in (told_by one) one) (ToUp number text)
-        put_windows = ap (λ b. theory_receive_windows.after setup.passing (rooms_in (told_by one) one) (sent_or_used b number text)) none_begun
+        subst (λ n. AreMarked setup.passing (newest_with number windows_before.stream (newest_in s)) (kept.marks ++ opened_side n number 0 0 ∷ []) (theory_receive_windows.with_act windows_before (Open number route))) last_is
+        (marked_opened setup.passing (newest_in s) kept.marks windows_before leads.marked number route (omega arith) is window.active (ap (λ n. find_side n kept.marks) last_is ∙ no_side_kept) nobody none_out none_taken)
 
     module _ (to_head : Bool) (passing : ResponsePassing) (passed : IsPassedBy setup passing) (asks : to_head ≡ is_front_of (codes "HEAD ") text) (reads : Reads [] [] (fresh to_head passing).reader) where
       abbrev pub new_connection : Connection
@@ -455,90 +361,39 @@ module _ (setup : Setup) (kept : View) (fresh_octets back stream route : ℕ) (t
 
       -- ---- what is kept then
 
-      abbrev pub put_out : List Connection → List Connection
-      put_out cs = map (put_at number (length text)) cs
+      abbrev pub opened_view : View
+      opened_view = record kept { upstreams = record { held = held_then; live = new_connection ∷ kept.upstreams.live; count = number }; marks = with_opened setup.passing stream number kept.marks }
 
       -- how much was put out for each connection, and how much of it was taken
-      counted_one : (j : ℕ) (x : Connection) → find number_of j (new_connection ∷ kept.upstreams.live) ≡ Some x → (windows_end.out j ≡ (put_at number (length text) x).out) × (windows_end.took j ≡ (put_at number (length text) x).took)
+      counted_one : (j : ℕ) (x : Connection) → find number_of j opened_view.upstreams.live ≡ Some x → (s.windows.out j ≡ x.out) × (s.windows.took j ≡ x.took)
       counted_one j x found = elim (eqb_tells number j) [
         | inl is ↦ (
             let it : Some new_connection ≡ Some x = sym (ap (λ b. if b then Some new_connection else find number_of j kept.upstreams.live) is.0) ∙ found in
-            let this : new_connection ≡ x = cc in
-            subst (λ (y : Connection). (windows_end.out j ≡ (put_at number (length text) y).out) × (windows_end.took j ≡ (put_at number (length text) y).took)) this
-            (subst (λ n. (windows_end.out n ≡ (put_at number (length text) new_connection).out) × (windows_end.took n ≡ (put_at number (length text) new_connection).took)) is.1 counted_new)
-            )
-        | inr off ↦ (
-            let before : find number_of j kept.upstreams.live ≡ Some x = sym (ap (λ b. if b then Some new_connection else find number_of j kept.upstreams.live) off.0) ∙ found in
-            let was = leads.keeps.counted j x before in
-            let here : (j == number) ≡ false = ne_eqb j number (λ same. off.1 (sym same)) in
-            let there : (x.live.k == number) ≡ false = ne_eqb x.live.k number (λ same. off.1 (sym same ∙ found_key number_of j kept.upstreams.live x before)) in (
-              ap (λ b. if b then s.windows.out j + length text else s.windows.out j) here ∙ was.0 ∙ sym (ap (λ b. if b then x.out + length text else x.out) there),
-              was.1,
+            let this : new_connection ≡ x = cc in (
+              ap s.windows.out (sym is.1) ∙ none_out ∙ ap (λ (y : Connection). y.out) this,
+              ap s.windows.took (sym is.1) ∙ none_taken ∙ ap (λ (y : Connection). y.took) this,
             )
             )
+        | inr off ↦ leads.keeps.counted j x (sym (ap (λ b. if b then Some new_connection else find number_of j kept.upstreams.live) off.0) ∙ found)
       ]
-        where
-          counted_new : (windows_end.out number ≡ (put_at number (length text) new_connection).out) × (windows_end.took number ≡ (put_at number (length text) new_connection).took)
-          counted_new = (
-            ap (λ b. if b then s.windows.out number + length text else s.windows.out number) (eq-eqb number number refl)
-                ∙ ap (λ n. n + length text) none_out
-                ∙ sym (ap (λ b. if b then 0 + length text else 0) (eq-eqb number number refl)),
-            none_taken,
-          )
 
-      counted_two : (j : ℕ) (c : Connection) → find number_of j (put_out (new_connection ∷ kept.upstreams.live)) ≡ Some c → (windows_end.out j ≡ c.out) × (windows_end.took j ≡ c.took)
-      counted_two j c found =
-          by (find number_of j (new_connection ∷ kept.upstreams.live)) refl (sym (find_map number_of (put_at number (length text)) (λ x. refl) j (new_connection ∷ kept.upstreams.live)) ∙ found)
-        where
-          by : (o : Option Connection) → find number_of j (new_connection ∷ kept.upstreams.live) ≡ o → option_map (put_at number (length text)) o ≡ Some c → (windows_end.out j ≡ c.out) × (windows_end.took j ≡ c.took)
-          by None is none = let clash : ◌≡◌ {A = Option Connection} None (Some c) = none in cc
-          by (Some x) is some =
-              let this : put_at number (length text) x ≡ c = cc in
-              subst (λ (y : Connection). (windows_end.out j ≡ y.out) × (windows_end.took j ≡ y.took)) this (counted_one j x is)
-
-      abbrev pub opened_view : View
-      opened_view = record kept { marks = with_side setup.passing stream number (length text) kept.marks; upstreams = record { held = held_then; live = put_out (new_connection ∷ kept.upstreams.live); count = number } }
-
-      keeps_two : Keeps opened_view due_behind two
-      keeps_two = record {
-        book =
-            book_two
-            ∙ ap (λ (b : Book). record b { given = given_one }) leads.keeps.book
-            ∙ ap (λ (os : List Opened). book_of (record { given = os; untaken = kept.untaken }) kept.inbound) (sym (ap (λ (b : Book). b.given) book_two));
-        owed = ap (λ (d : Ledger). d.queue) ledger_two ∙ ap (λ (d : Ledger). d.queue) ledger_one ∙ leads.keeps.owed;
-        offers = leads.keeps.offers;
-        requests = requests_two ∙ ap (λ (ls : List Line). record { held = held_then; live = ls; due = Nothing; count = number }) (sym (lives_same (put_at number (length text)) (λ c. refl) (new_connection ∷ kept.upstreams.live)));
-        decoding = leads.keeps.decoding;
-        encoding = leads.keeps.encoding;
-        read = leads.keeps.read;
-        credited = record {
-          fresh = ap (λ (w : theory_receive_windows.Kept). w.count) windows_two ∙ leads.keeps.credited.fresh;
-          shared = ap (λ (w : theory_receive_windows.Kept). w.debt) windows_two ∙ leads.keeps.credited.shared;
-          own = λ id goes. ap (λ (w : theory_receive_windows.Kept). (w.row id).debt) windows_two ∙ debt_same ((told_by s).last == id) number (s.windows.row id) ∙ leads.keeps.credited.own id goes;
-        };
-        counted = λ j c found. let it = counted_two j c found in (ap (λ (w : theory_receive_windows.Kept). w.out j) windows_two ∙ it.0, ap (λ (w : theory_receive_windows.Kept). w.took j) windows_two ∙ it.1);
+      done : acts.IsDone setup kept due_before run s leads (Open number route) given_one opened_view.upstreams (ToSend number text) opened_view.marks (theory_receive_windows.with_act windows_before (Open number route))
+      done = record {
+        goes_on = tt;
+        may = record { nothing = leads.keeps.owed; begins = sound.opens_next (own setup run s leads.stands leads.so) run s (own_led setup run s leads.stands leads.so) number route may_open; due = may_open; window = window };
+        given_is = refl;
+        requests = requests_one;
+        rooms_are = refl;
+        debts = record { fresh = refl; shared = refl; own = λ id. debt_same (windows_before.stream == id) number (s.windows.row id) };
+        counted = counted_one;
+        heard = heard_one;
+        marked = marked_by setup.passing refl;
+        in_effect = leads.in_effect;
       }
 
-      -- A connection that is due is opened, and its text goes out.
-      pub opened_performs : (outputs : List Output) → OwnSegment setup run s outputs opened_view due_behind (put (put outputs (Puts (Open number route))) (Puts (ToUp number text)))
-      opened_performs outputs = record {
-        segment = record {
-          moves = Does second ∷ Does first ∷ [];
-          state = two;
-          by_rule = (one, (s, refl, may_one, refl), may_two, refl);
-          leads = record {
-            stands = one_more setup (Does first ∷ run) one (Does second) stands_one may_two;
-            so = so_stays setup (Does first ∷ run) second tt so_one;
-            heard = heard_of_changed setup (Does second ∷ Does first ∷ run) (new_connection ∷ kept.upstreams.live) (put_at number (length text)) (λ c. refl) (λ c. refl)
-                (heard_stays setup (Does first ∷ run) one stands_one so_one (new_connection ∷ kept.upstreams.live) (ap (λ (r : theory_requests.State). r.live) requests_one) second (same_exchanges opened_tape number text its_then) heard_one);
-            keeps = keeps_two;
-            marked = marked_two;
-            in_effect = tt;
-          };
-          puts = refl;
-        };
-        are_own = tt;
-      }
+      -- A connection that is due is opened, and its text is due then.
+      pub opened_performs : (outputs : List Output) → OwnSegment setup run s outputs opened_view due_behind (put outputs (Puts (Open number route)))
+      opened_performs = acts.acted setup kept due_before run s leads (Open number route) given_one opened_view.upstreams (ToSend number text) opened_view.marks (theory_receive_windows.with_act windows_before (Open number route)) done
 
 -- ---- in the words of the calls
 
@@ -548,34 +403,32 @@ module _ (kept : View) (stream route : ℕ) (text : List ℕ) (stage : Stage) (t
     (opened_is : middle ≡ opened_for stream route to_head passing stage kept.upstreams)
     (put_is : behind ≡ record middle { live = map (put_at k count) middle.live }) (sides_are : sides ≡ with_side (passing_in passing) stream k count kept.marks)
     (opens_out : between ≡ put before (Puts (Open k route))) (puts_out : after ≡ put between (Puts (ToUp k text))) where
-  upstreams_are : (let u : upstreams.State = opened_for stream route to_head passing stage kept.upstreams in record u { live = map (put_at (suc kept.upstreams.count) (length text)) u.live }) ≡ behind
-  upstreams_are =
-      ap (λ n. let u : upstreams.State = opened_for stream route to_head passing stage kept.upstreams in record u { live = map (put_at n (length text)) u.live }) (sym is_number)
-      ∙ ap (λ n. let u : upstreams.State = opened_for stream route to_head passing stage kept.upstreams in record u { live = map (put_at k n) u.live }) (sym is_count)
-      ∙ ap (λ (u : upstreams.State). record u { live = map (put_at k count) u.live }) (sym opened_is)
-      ∙ sym put_is
+  -- it is opened
+  it_opens : (setup : Setup) (fresh_octets back : ℕ) → IsPassedBy setup passing
+      → PerformsOwn setup kept (due_before setup kept fresh_octets back stream route text stage) before (record kept { upstreams = middle; marks = with_opened (passing_in passing) stream k kept.marks }) (record balanced { due = ToSend k text; fresh = fresh_octets; shared = back }) between
+  it_opens setup fresh_octets back passed run s leads =
+      subst (λ n. OwnSegment setup run s before (record kept { upstreams = middle; marks = with_opened (passing_in passing) stream n kept.marks }) (record balanced { due = ToSend n text; fresh = fresh_octets; shared = back }) between) (sym is_number)
+      (subst (λ (u : upstreams.State). OwnSegment setup run s before (record kept { upstreams = u; marks = with_opened (passing_in passing) stream (suc kept.upstreams.count) kept.marks }) (due_behind setup kept fresh_octets back stream route text stage) between) (sym opened_is)
+      (subst (λ (p : Way). OwnSegment setup run s before (record kept { upstreams = opened_for stream route to_head passing stage kept.upstreams; marks = with_opened p stream (suc kept.upstreams.count) kept.marks }) (due_behind setup kept fresh_octets back stream route text stage) between) (sym passed.passing)
+      (subst (λ (o : List Output). OwnSegment setup run s before (opened_view setup kept fresh_octets back stream route text stage run s leads to_head passing passed asks reads) (due_behind setup kept fresh_octets back stream route text stage) o) (ap (λ n. put before (Puts (Open n route))) (sym is_number) ∙ sym opens_out)
+      (opened_performs setup kept fresh_octets back stream route text stage run s leads to_head passing passed asks reads before))))
 
-  marks_are : (p : Way) → passing_in passing ≡ p → with_side p stream (suc kept.upstreams.count) (length text) kept.marks ≡ sides
-  marks_are p is =
-      ap (λ n. with_side p stream n (length text) kept.marks) (sym is_number)
-      ∙ ap (λ n. with_side p stream k n kept.marks) (sym is_count)
-      ∙ ap (λ (x : Way). with_side x stream k count kept.marks) (sym is)
-      ∙ sym sides_are
-
-  outputs_are : put (put before (Puts (Open (suc kept.upstreams.count) route))) (Puts (ToUp (suc kept.upstreams.count) text)) ≡ after
-  outputs_are =
-      ap (λ n. put (put before (Puts (Open n route))) (Puts (ToUp n text))) (sym is_number)
-      ∙ ap (λ (o : List Output). put o (Puts (ToUp k text))) (sym opens_out)
-      ∙ sym puts_out
+  sides_put : (p : Way) → passing_in passing ≡ p → (p ≡ WholePassing → kept.marks ≡ []) → sides ≡ change stream (putting count) (with_opened p stream k kept.marks)
+  sides_put WholePassing is none =
+      sides_are ∙ ap (λ (p : Way). with_side p stream k count kept.marks) is ∙ none refl ∙ ap (λ (ms : List Side). change stream (putting count) ms) (sym (none refl))
+  sides_put Streaming is none = sides_are ∙ ap (λ (p : Way). with_side p stream k count kept.marks) is
 
   -- The calls perform.
   pub calls_perform : (setup : Setup) (fresh_octets back : ℕ) → IsPassedBy setup passing
       → PerformsOwn setup kept (record balanced { due = ToOpen stream route text stage; fresh = fresh_octets; shared = back }) before (record kept { upstreams = behind; marks = sides }) (record balanced { fresh = fresh_octets; shared = back }) after
   calls_perform setup fresh_octets back passed run s leads =
-      subst (λ (u : upstreams.State). OwnSegment setup run s before (record kept { upstreams = u; marks = sides }) (record balanced { fresh = fresh_octets; shared = back }) after) upstreams_are
-      (subst (λ (ms : List Side). OwnSegment setup run s before (record (opened_view setup kept fresh_octets back stream route text stage run s leads to_head passing passed asks reads) { marks = ms }) (record balanced { fresh = fresh_octets; shared = back }) after) (marks_are setup.passing passed.passing)
-      (subst (λ (o : List Output). OwnSegment setup run s before (opened_view setup kept fresh_octets back stream route text stage run s leads to_head passing passed asks reads) (record balanced { fresh = fresh_octets; shared = back }) o) outputs_are
-      (opened_performs setup kept fresh_octets back stream route text stage run s leads to_head passing passed asks reads before)))
+      let opened : View = record kept { upstreams = middle; marks = with_opened (passing_in passing) stream k kept.marks } in
+      let of : IfSome (find number_of k middle.live) (λ c. stream ≡ c.live.stream) =
+      subst (λ (u : upstreams.State). IfSome (find number_of k u.live) (λ c. stream ≡ c.live.stream)) (sym opened_is)
+      (subst (λ b. IfSome (if b then Some (connections.opened (suc kept.upstreams.count) route stream to_head passing) else find number_of k kept.upstreams.live) (λ c. stream ≡ c.live.stream)) (sym (eq-eqb (suc kept.upstreams.count) k (sym is_number))) refl) in
+      let puts = calls_send opened k stream count text behind sides between after of is_count put_is (sides_put (passing_in passing) refl (λ whole. leads.marked.none (sym passed.passing ∙ whole))) puts_out setup fresh_octets back in
+      own_then setup kept opened (record kept { upstreams = behind; marks = sides }) (due_before setup kept fresh_octets back stream route text stage) (record balanced { due = ToSend k text; fresh = fresh_octets; shared = back }) (record balanced { fresh = fresh_octets; shared = back }) before between after
+      (it_opens setup fresh_octets back passed) puts run s leads
 
 -- The new connection isn't done with, since its stream is served.
 pub opens_but : (kept : View) (stream route k count : ℕ) (to_head : Bool) (passing : ResponsePassing) (stage : Stage) (middle behind : upstreams.State) (sides : List Side) → (told_view kept).served stream ≡ true

@@ -5,13 +5,10 @@ use Rattle.std.specs.List.{list_any}
 use Rattle.model.specs.Logs.{Output}
 use Rattle.model.specs.Logs.Act.{ToUp}
 use Rattle.model.specs.Logs.Output.{Does as Puts}
-use Rattle.model.specs.Openings.{Opened, exchanges, given, route_of, last_stream}
+use Rattle.model.specs.Openings.{Opened, exchanges, given, route_of, last_stream, begins_another}
 use Rattle.model.specs.Setup.{Setup}
 use Rattle.model.specs.Tapes.{put}
-use Rattle.theory_errors.specs.Book.{Book, Ledger, ledger_after}
 use Rattle.theory_receive_windows.specs.State as theory_receive_windows
-use Rattle.connection_state.specs.Inbound.{book_of}
-use Rattle.connection_state.proofs.SendingEvents.{puts_lead, did_ledger}
 use Rattle.theory_requests.specs.State as theory_requests
 use Rattle.theory_requests.specs.Lines.{Line, line_of, find}
 use Rattle.theory_requests.specs.State.Due.{Nothing, ToSend}
@@ -26,21 +23,20 @@ use Rattle.upstream_connections.specs.Connections.{Connection, number_of, lives,
 use Rattle.window_credit.specs.Sides.{Side, change, putting}
 use Rattle.window_credit.specs.Sides.{find as find_side}
 use Rattle.window_credit.proofs.Rising.{change_none}
-use Rattle.theory.specs.Moves.{Decision, Move, conduct_of, told_in, sent_or_used}
+use Rattle.theory.specs.Moves.{Move, told_in, sent_or_used}
 use Rattle.theory.specs.Moves.Decision.{Acts}
 use Rattle.theory.specs.Moves.Move.{Does}
 use Rattle.theory.specs.State.{State, tape_of}
 use Rattle.theory.specs.Rule.{rooms_in}
-use Rattle.theory.specs.Steps.{told_by, told_behind, next, MayGoOn}
-use Rattle.theory.proofs.Going.{may_act}
-use Rattle.theory.proofs.Stepping.{one_more}
-use Rattle.refinement.specs.View.{View, Pending, balanced, newest_in, Keeps, AreMarked, AreSo, Leads}
+use Rattle.theory.specs.Steps.{told_by, told_behind}
+use Rattle.refinement.specs.View.{View, Pending, balanced, newest_in, AreMarked, Leads}
 use Rattle.refinement.specs.Bringing.{OwnSegment, PerformsOwn}
 use Rattle.refinement.proofs.Connected.{its_side, newest_is}
 use Rattle.refinement.proofs.Lives.{lives_same, kept_open}
-use Rattle.refinement.proofs.Marking.{rooms_next, marked_put, marked_put_beside}
-use Rattle.refinement.proofs.Staying.{so_stays, heard_stays, heard_of_changed, rows_kept}
+use Rattle.refinement.proofs.Marking.{marked_put, marked_put_beside}
+use Rattle.refinement.proofs.Staying.{found_from, heard_stays, heard_of_changed}
 use Rattle.event_handlers.specs.Closings.{told_but, NoneDoneBut}
+use Rattle.event_handlers.proofs.exchanges.Acts as acts
 use Rattle.refinement.proofs.Where.{own, right_here, stands_here}
 
 module _ (setup : Setup) (kept : View) (fresh back k : ℕ) (text : List ℕ) where
@@ -52,9 +48,6 @@ module _ (setup : Setup) (kept : View) (fresh back k : ℕ) (text : List ℕ) wh
   due_behind = record balanced { fresh = fresh; shared = back }
 
   module _ (run : List Move) (s : State) (leads : Leads setup run kept due_before s) where
-    abbrev decision : Decision
-    decision = Acts (ToUp k text)
-
     due_is : s.requests.due ≡ ToSend k text
     due_is = ap (λ (r : theory_requests.State). r.due) leads.keeps.requests
 
@@ -87,30 +80,6 @@ module _ (setup : Setup) (kept : View) (fresh back k : ℕ) (text : List ℕ) wh
     abbrev pub sent_view : View
     sent_view = record kept { upstreams = record kept.upstreams { live = map (put_at k (length text)) kept.upstreams.live }; marks = change stream (putting (length text)) kept.marks }
 
-    ledger : ledger_after setup s.ledger (conduct_of decision) ≡ s.ledger
-    ledger =
-        did_ledger setup false s.ledger (ToUp k text) _ [] (puts_lead setup s.ledger.book k text (rows_kept setup run s leads.stands))
-        ∙ ap (λ (os : List Opened). record { book = record s.ledger.book { given = os }; queue = s.ledger.queue })
-        (ap (λ b. if b then record { k = k; route = route_of k s.ledger.book.given; stream = s.ledger.book.last } ∷ s.ledger.book.given else s.ledger.book.given) (none_begins (given k s.ledger.book.given) s.ledger.book.last text its_book))
-
-    may : MayGoOn setup s (Does decision)
-    may = (
-      ap (λ (d : Ledger). d.book.ends) ledger ∙ leads.stands.goes_on,
-      may_act setup (told_behind setup s decision) s (ToUp k text) (ap (λ (b : Book). b.closed) leads.keeps.book)
-          (inl (record { nothing = leads.keeps.owed; due = due_is; window = record { opened = ap (λ (o : Option Line). is_some o) due_there.found; its = its_book; in_effect = λ streaming. leads.in_effect } })),
-    )
-
-    abbrev then_state : State
-    then_state = next setup s (Does decision)
-
-    so_then : AreSo setup (Does decision ∷ run)
-    so_then = so_stays setup run decision tt leads.so
-
-    requests_then : then_state.requests ≡ upstreams.with_due sent_view.upstreams Nothing
-    requests_then =
-        ap (λ (r : theory_requests.State). theory_requests.after setup (told_in (told_behind setup s decision)) r (theory_requests.Move.Acts (ToUp k text))) leads.keeps.requests
-        ∙ ap (λ (ls : List Line). record { held = kept.upstreams.held; live = ls; due = Nothing; count = kept.upstreams.count }) (sym (lives_same (put_at k (length text)) (λ c. refl) kept.upstreams.live))
-
     -- what is kept of DATA that waits
     abbrev rooms : theory_receive_windows.State
     rooms = rooms_in (told_by s) s
@@ -128,17 +97,6 @@ module _ (setup : Setup) (kept : View) (fresh back k : ℕ) (text : List ℕ) wh
         (marked_put_beside setup.passing (newest_in s) kept.marks rooms leads.marked k text
         (λ side there. absurd (let no : ◌≡◌ {A = Option Side} None (Some side) = sym none ∙ ap (λ n. find_side n kept.marks) (sym newest) ∙ there in let clash : ◌≡◌ {A = Option Side} None (Some side) = no in cc)))
 
-    marked_then : AreMarked setup.passing (newest_in then_state) sent_view.marks (rooms_in (told_by then_state) then_state)
-    marked_then =
-        subst (λ (os : List Opened). AreMarked setup.passing (λ j. given j os) sent_view.marks (rooms_in (told_by then_state) then_state)) (sym (ap (λ (d : Ledger). d.book.given) ledger))
-        (subst (AreMarked setup.passing (newest_in s) sent_view.marks)
-        (sym (rooms_next setup run s leads.stands leads.so decision may so_then
-        ∙ ap (λ b. theory_receive_windows.after setup.passing rooms (sent_or_used b k text)) (none_begins (given k s.ledger.book.given) s.ledger.book.last text its_book)))
-        (marked_by (find_side stream kept.marks) refl))
-
-    windows_then : then_state.windows ≡ theory_receive_windows.kept_of (theory_receive_windows.with_act rooms (ToUp k text))
-    windows_then = ap (λ b. theory_receive_windows.kept_of (theory_receive_windows.after setup.passing rooms (sent_or_used b k text))) (none_begins (given k s.ledger.book.given) s.ledger.book.last text its_book)
-
     -- its side counts what its connection does
     pub side_room : (count : ℕ) → HasRoom count (find number_of k kept.upstreams.live) → IfSome (find_side stream kept.marks) (λ side. side.out + count < 2 ^ 64)
     side_room count room = by (find_side stream kept.marks) refl
@@ -148,63 +106,39 @@ module _ (setup : Setup) (kept : View) (fresh back k : ℕ) (text : List ℕ) wh
         by (Some side) found = subst (λ n. n + count < 2 ^ 64) (sym (its_side setup run kept due_before s leads k connection open_there.1 side found).2) (subst (HasRoom count) open_there.1 room)
 
     -- how much was put out for each connection, and how much of it was taken
-    counted_one : (j : ℕ) (x : Connection) → find number_of j kept.upstreams.live ≡ Some x → (then_state.windows.out j ≡ (put_at k (length text) x).out) × (then_state.windows.took j ≡ (put_at k (length text) x).took)
-    counted_one j x is =
-        let was = leads.keeps.counted j x is in (
-          ap (λ (w : theory_receive_windows.Kept). w.out j) windows_then
-              ∙ ap (λ n. if n == k then s.windows.out j + length text else s.windows.out j) (sym (found_key number_of j kept.upstreams.live x is))
-              ∙ ap (λ n. if x.live.k == k then n + length text else n) was.0,
-          ap (λ (w : theory_receive_windows.Kept). w.took j) windows_then ∙ was.1,
+    counted_then : (j : ℕ) (c : Connection) → find number_of j sent_view.upstreams.live ≡ Some c → ((theory_receive_windows.with_act rooms (ToUp k text)).out j ≡ c.out) × (s.windows.took j ≡ c.took)
+    counted_then j c found =
+        let from = found_from (put_at k (length text)) (λ x. refl) kept.upstreams.live j c found in
+        let was = leads.keeps.counted j from.before from.there in (
+          ap (λ n. if n == k then s.windows.out j + length text else s.windows.out j) (sym (found_key number_of j kept.upstreams.live from.before from.there))
+              ∙ ap (λ n. if from.before.live.k == k then n + length text else n) was.0
+              ∙ ap (λ (y : Connection). y.out) from.is,
+          was.1 ∙ ap (λ (y : Connection). y.took) from.is,
         )
 
-    counted_then : (j : ℕ) (c : Connection) → find number_of j sent_view.upstreams.live ≡ Some c → (then_state.windows.out j ≡ c.out) × (then_state.windows.took j ≡ c.took)
-    counted_then j c found = by (find number_of j kept.upstreams.live) refl (sym (find_map number_of (put_at k (length text)) (λ x. refl) j kept.upstreams.live) ∙ found)
-      where
-        by : (o : Option Connection) → find number_of j kept.upstreams.live ≡ o → option_map (put_at k (length text)) o ≡ Some c → (then_state.windows.out j ≡ c.out) × (then_state.windows.took j ≡ c.took)
-        by None is none = let clash : ◌≡◌ {A = Option Connection} None (Some c) = none in cc
-        by (Some x) is some =
-            let this : put_at k (length text) x ≡ c = cc in
-            subst (λ (y : Connection). (then_state.windows.out j ≡ y.out) × (then_state.windows.took j ≡ y.took)) this (counted_one j x is)
+    none_begun : begins_another (given k s.ledger.book.given) s.ledger.book.last text ≡ false
+    none_begun = none_begins (given k s.ledger.book.given) s.ledger.book.last text its_book
 
-    keeps : Keeps sent_view due_behind then_state
-    keeps = record {
-      book =
-          ap (λ (d : Ledger). d.book) ledger ∙ leads.keeps.book
-          ∙ ap (λ (os : List Opened). book_of (record { given = os; untaken = kept.untaken }) kept.inbound) (sym (ap (λ (d : Ledger). d.book.given) ledger));
-      owed = ap (λ (d : Ledger). d.queue) ledger ∙ leads.keeps.owed;
-      offers = leads.keeps.offers;
-      requests = requests_then;
-      decoding = leads.keeps.decoding;
-      encoding = leads.keeps.encoding;
-      read = leads.keeps.read;
-      credited = record {
-        fresh = ap (λ (w : theory_receive_windows.Kept). w.count) windows_then ∙ leads.keeps.credited.fresh;
-        shared = ap (λ (w : theory_receive_windows.Kept). w.debt) windows_then ∙ leads.keeps.credited.shared;
-        own = λ id goes. ap (λ (w : theory_receive_windows.Kept). (w.row id).debt) windows_then ∙ leads.keeps.credited.own id goes;
-      };
+    done : acts.IsDone setup kept due_before run s leads (ToUp k text) s.ledger.book.given sent_view.upstreams Nothing sent_view.marks (theory_receive_windows.with_act rooms (ToUp k text))
+    done = record {
+      goes_on = tt;
+      may = inl (record { nothing = leads.keeps.owed; due = due_is; window = record { opened = ap (λ (o : Option Line). is_some o) due_there.found; its = its_book; in_effect = λ streaming. leads.in_effect } });
+      given_is = ap (λ b. if b then record { k = k; route = route_of k s.ledger.book.given; stream = s.ledger.book.last } ∷ s.ledger.book.given else s.ledger.book.given) none_begun;
+      requests =
+          ap (λ (r : theory_requests.State). theory_requests.after setup (told_in (told_behind setup s (Acts (ToUp k text)))) r (theory_requests.Move.Acts (ToUp k text))) leads.keeps.requests
+          ∙ ap (λ (ls : List Line). record { held = kept.upstreams.held; live = ls; due = Nothing; count = kept.upstreams.count }) (sym (lives_same (put_at k (length text)) (λ c. refl) kept.upstreams.live));
+      rooms_are = ap (λ b. theory_receive_windows.after setup.passing rooms (sent_or_used b k text)) none_begun;
+      debts = record { fresh = refl; shared = refl; own = λ id. refl };
       counted = counted_then;
+      heard = heard_of_changed setup (Does (Acts (ToUp k text)) ∷ run) kept.upstreams.live (put_at k (length text)) (λ c. refl) (λ c. refl)
+          (heard_stays setup run s leads.stands leads.so kept.upstreams.live (ap (λ (r : theory_requests.State). r.live) leads.keeps.requests) (Acts (ToUp k text)) (same_exchanges (tape_of run) k text its) leads.heard);
+      marked = marked_by (find_side stream kept.marks) refl;
+      in_effect = tt;
     }
 
     -- Octets that are due go out.
     pub sent_performs : (outputs : List Output) → OwnSegment setup run s outputs sent_view due_behind (put outputs (Puts (ToUp k text)))
-    sent_performs outputs = record {
-      segment = record {
-        moves = Does decision ∷ [];
-        state = then_state;
-        by_rule = (s, refl, may, refl);
-        leads = record {
-          stands = one_more setup run s (Does decision) leads.stands may;
-          so = so_then;
-          heard = heard_of_changed setup (Does decision ∷ run) kept.upstreams.live (put_at k (length text)) (λ c. refl) (λ c. refl)
-              (heard_stays setup run s leads.stands leads.so kept.upstreams.live (ap (λ (r : theory_requests.State). r.live) leads.keeps.requests) decision (same_exchanges (tape_of run) k text its) leads.heard);
-          keeps = keeps;
-          marked = marked_then;
-          in_effect = tt;
-        };
-        puts = refl;
-      };
-      are_own = tt;
-    }
+    sent_performs = acts.acted setup kept due_before run s leads (ToUp k text) s.ledger.book.given sent_view.upstreams Nothing sent_view.marks (theory_receive_windows.with_act rooms (ToUp k text)) done
 
 -- ---- in the words of the calls
 

@@ -39,8 +39,10 @@ use Rattle.event_handlers.specs.declared.block_frames.taking.BlockTaken.{BlockTa
 use Rattle.event_handlers.specs.declared.block_frames.taking.BlockTaken.TheVariants as block_taken
 use Rattle.event_handlers.specs.Comings.{ComesFrom}
 use Rattle.event_handlers.specs.Inputs.Input.{OfFrame}
-use Rattle.event_handlers.specs.Resting.{AreNumbered}
+use Rattle.event_handlers.specs.MidStep.{IsMidStep}
+use Rattle.event_handlers.specs.Resting.{AreNumbered, IsSettled}
 use Rattle.event_handlers.proofs.Ends.{ends_come}
+use Rattle.event_handlers.proofs.MidSteps.{mid_about}
 
 -- ---- streams have numbers of 31 bits behind the frame
 
@@ -99,6 +101,14 @@ module _ (setup : Setup) where
   block_brings a b c d o p q r frame due goaway dropped passed says serves =
       brings_then setup a c d balanced (record balanced { due = due_by due; shared = dropped }) (back_of dropped) o q r (Came (record { frame = frame; note = passed.note }))
       (goaway_brings a b c o p q frame due goaway dropped passed says) (serves 0 dropped)
+
+  -- ---- the gateway is in the midst of a step about the frame's stream then
+
+  pub plain_mid : (old new : View) (o p : List Output) (frame : Frame) (due : Due) (dropped : ℕ) → IsSettled old → plain.IsPassed setup old o frame due dropped new p → IsMidStep frame.id new
+  plain_mid old new o p frame due dropped settled passed = mid_about frame.id old new settled.rest.none_done passed.none_cut passed.about (numbered_as old new passed.ids settled.numbered)
+
+  pub block_mid : (old new : View) (o p : List Output) (frame : Frame) (due : Due) (goaway : Option ℕ) (dropped : ℕ) → frame.id < 2147483648 → IsSettled old → block.IsPassed setup old o frame due goaway dropped new p → IsMidStep frame.id new
+  block_mid old new o p frame due goaway dropped few settled passed = mid_about frame.id old new settled.rest.none_done passed.none_cut passed.about (numbered_with old new frame.id passed.ids few settled.numbered)
 
   -- ---- it is an error of the connection
 

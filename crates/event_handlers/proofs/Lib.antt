@@ -6,4 +6,5 @@ pub mod Results
 pub mod Stays
 mod Took
 pub mod Closings
+pub mod MidSteps
 pub mod Frames

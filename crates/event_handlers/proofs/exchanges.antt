@@ -16,3 +16,4 @@ pub mod Done
 pub mod Reuses
 pub mod Idles
 pub mod Finishes
+pub mod Stills

@@ -5,6 +5,7 @@ pub mod Leaving
 pub mod Resting
 pub mod Stopping
 pub mod Closings
+pub mod MidStep
 pub mod Forgetting
 pub mod paying
 pub mod plain_frames

@@ -5,8 +5,8 @@ ghost use Rattle.model.specs.Setup.{Setup};
 ghost use Rattle.streams.specs.Asked.{has};
 ghost use Rattle.refinement.specs.View.{balanced};
 ghost use Rattle.refinement.specs.Rest.{NoneCut, NoneDone, Reached, back_of, IsBack};
-ghost use Rattle.event_handlers.specs.Closings.{NoneDoneBut};
 ghost use Rattle.event_handlers.specs.Comings.{FollowsFrom};
+ghost use Rattle.event_handlers.specs.MidStep.{IsMidStep};
 ghost use Rattle.event_handlers.specs.Resting.{now_of, RestsSo};
 ghost use Rattle.event_handlers.specs.Stopping.{Concludes, IfOver, EndsBack};
 
@@ -48,9 +48,7 @@ pub(crate) fn rest_behind(
     out: &mut Outputs,
 ) -> Result<Onward, Halt>
     requires reached { (setup : Setup) × (back : ℕ) × IsBack session.old back × Reached setup session.old (back_of back) }
-    requires none_cut { NoneCut session.old.offers }
-    requires none_but { NoneDoneBut id session.old }
-    requires numbered { (id : ℕ) → has session.old.inbound.rows id ≡ true → id < 2147483648 }
+    requires mid { IsMidStep id session.old }
     ensures follows { IfOk result (λ went. (back : ℕ) → IsBack session.old back → (setup : Setup)
         → FollowsFrom setup session.old (back_of back) out.old balanced (now_of went session.new) out.new) }
     ensures rests { IfOk result (λ went. RestsSo went session.new) }

@@ -5,7 +5,6 @@ ghost use Rattle.model.specs.Frames.{Frame};
 ghost use Rattle.model.specs.Setup.{Setup};
 ghost use Rattle.model.specs.WindowsOnTape.{is_any, data_length};
 ghost use Rattle.frames.specs.Views.{frame_of};
-ghost use Rattle.streams.specs.Asked.{has};
 ghost use Rattle.connection_state.specs.AnyFrame.{has_fragment};
 ghost use Rattle.theory_requests.specs.State as theory_requests;
 ghost use Rattle.theory_requests.specs.State.{is_streaming};
@@ -13,12 +12,12 @@ ghost use Rattle.upstream_response.specs.Waiting.{passing_in};
 ghost use Rattle.window_credit.specs.Sides.{is_past};
 ghost use Rattle.upstream_connections.specs.Requests.{due_by};
 ghost use Rattle.refinement.specs.View.{balanced};
-ghost use Rattle.refinement.specs.Rest.{NoneCut, Reached};
+ghost use Rattle.refinement.specs.Rest.{Reached};
 ghost use Rattle.refinement.specs.Bringing.{PerformsOwn};
 ghost use Rattle.event_handlers.specs.block_frames.Following.{goaway_frames};
-ghost use Rattle.event_handlers.specs.Closings.{NoneDoneBut};
 ghost use Rattle.event_handlers.specs.Comings.{FollowsFrom, ComesFrom};
 ghost use Rattle.event_handlers.specs.Inputs.Input.{OfFrame};
+ghost use Rattle.event_handlers.specs.MidStep.{IsHandedOn, IsMidStep};
 ghost use Rattle.event_handlers.specs.Resting.{now_of, IsSettled, RestsSo, IsPassedBy, IsServed};
 ghost use Rattle.event_handlers.specs.Stopping.{IfOver, IsCalmed, EndsFrom};
 
@@ -94,9 +93,7 @@ fn serve(
           fresh = fresh;
           shared = back;
         }) out.new) }
-    ensures stays { OnOk result ((session.new.inbound ≡ session.old.inbound) × (session.new.offers ≡ session.old.offers)) }
-    ensures none_but { OnOk result ((id : ℕ) → NoneDoneBut id session.old → NoneDoneBut id session.new) }
-    ensures newest { OnOk result (is_past session.old.inbound.last session.old.marks ≡ false → is_past session.old.inbound.last session.new.marks ≡ false) }
+    ensures handed { OnOk result (IsHandedOn session.old session.new) }
 {
     match due {
         Due::Nothing => Ok(()),
@@ -120,9 +117,7 @@ fn follow(
     requires last { id ≡ session.old.inbound.last }
     requires few { octets ≤ 16384 }
     requires newest { 0 < octets → is_past id session.old.marks ≡ false }
-    requires none_cut { NoneCut session.old.offers }
-    requires none_but { NoneDoneBut id session.old }
-    requires numbered { (id : ℕ) → has session.old.inbound.rows id ≡ true → id < 2147483648 }
+    requires mid { IsMidStep id session.old }
     ensures follows { IfOk result (λ went. (setup : Setup) → FollowsFrom setup session.old (record balanced {
       fresh = octets;
       shared = dropped;

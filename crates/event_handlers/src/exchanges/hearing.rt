@@ -6,15 +6,15 @@ ghost use Rattle.model.specs.Setup.{Setup};
 ghost use Rattle.model.specs.Tapes.Entry.{Happened};
 ghost use Rattle.theory_requests.specs.Lines.{find};
 ghost use Rattle.theory_requests.specs.State.{held_of};
-ghost use Rattle.streams.specs.Asked.{has};
 ghost use Rattle.upstream_connections.specs.Connections.{number_of};
 ghost use Rattle.upstream_connections.specs.Progress.{heard_of};
 ghost use Rattle.refinement.specs.View.{balanced};
-ghost use Rattle.refinement.specs.Rest.{IsAtRest, NoneCut, Reached, back_of};
+ghost use Rattle.refinement.specs.Rest.{Reached, back_of};
 ghost use Rattle.refinement.specs.Bringing.{Brings};
-ghost use Rattle.event_handlers.specs.Closings.{NoneDoneBut};
 ghost use Rattle.event_handlers.specs.Comings.{ComesFrom};
 ghost use Rattle.event_handlers.specs.Inputs.Input.{OfEvent};
+ghost use Rattle.event_handlers.specs.MidStep.{IsMidStep};
+ghost use Rattle.event_handlers.specs.Resting.{IsSettled};
 ghost use Rattle.event_handlers.specs.Stopping.{IfOver};
 ghost use Rattle.event_handlers.specs.exchanges.Finishing.{IsKeeping, closed_by, put_closed_by, verdict_by, finished_at, put_finished};
 
@@ -45,14 +45,11 @@ pub fn hear(
 ) -> Result<u64, Halt>
     requires opened { is_some (find number_of k session.old.upstreams.live) ≡ true }
     requires short { length octets.now ≤ 65536 }
-    requires rest { IsAtRest session.old }
-    requires numbered { (id : ℕ) → has session.old.inbound.rows id ≡ true → id < 2147483648 }
+    requires settled { IsSettled session.old }
     requires reached { (setup : Setup) × IsKeeping keep most_idle setup × Reached setup session.old balanced }
     ensures brings { IfOk result (λ back. (setup : Setup) → IsKeeping keep most_idle setup
         → Brings setup session.old balanced out.old (Happened (Up k octets.now)) session.new (back_of back) out.new) }
-    ensures none_cut { OnOk result (NoneCut session.new.offers) }
-    ensures none_but { OnOk result (IfSome (find number_of k session.old.upstreams.live) (λ connection. NoneDoneBut connection.live.stream session.new)) }
-    ensures numbered { OnOk result ((id : ℕ) → has session.new.inbound.rows id ≡ true → id < 2147483648) }
+    ensures mid { OnOk result (IfSome (find number_of k session.old.upstreams.live) (λ connection. IsMidStep connection.live.stream session.new)) }
     ensures over { IfErr result (λ stop. IfOver stop ((setup : Setup) → IsKeeping keep most_idle setup
         → ComesFrom setup session.old balanced out.old (OfEvent (Up k octets.now) ∷ []) balanced None out.new)) }
 {
@@ -127,13 +124,10 @@ fn finish(
 /// whole with that, and it is closed, or else fails.
 pub fn end(alloc: Global, session: &mut Session, k: u32, out: &mut Outputs) -> Result<u64, Halt>
     requires opened { is_some (find number_of k session.old.upstreams.live) ≡ true }
-    requires rest { IsAtRest session.old }
-    requires numbered { (id : ℕ) → has session.old.inbound.rows id ≡ true → id < 2147483648 }
+    requires settled { IsSettled session.old }
     requires reached { (setup : Setup) × Reached setup session.old balanced }
     ensures brings { IfOk result (λ back. (setup : Setup) → Brings setup session.old balanced out.old (Happened (UpEnd k)) session.new (back_of back) out.new) }
-    ensures none_cut { OnOk result (NoneCut session.new.offers) }
-    ensures none_but { OnOk result (IfSome (find number_of k session.old.upstreams.live) (λ connection. NoneDoneBut connection.live.stream session.new)) }
-    ensures numbered { OnOk result ((id : ℕ) → has session.new.inbound.rows id ≡ true → id < 2147483648) }
+    ensures mid { OnOk result (IfSome (find number_of k session.old.upstreams.live) (λ connection. IsMidStep connection.live.stream session.new)) }
     ensures over { IfErr result (λ stop. IfOver stop ((setup : Setup)
         → ComesFrom setup session.old balanced out.old (OfEvent (UpEnd k) ∷ []) balanced None out.new)) }
 {
@@ -153,14 +147,11 @@ pub fn end(alloc: Global, session: &mut Session, k: u32, out: &mut Outputs) -> R
 /// The open connection with this number failed, and is gone: its response fails with it.
 pub fn fail(session: &mut Session, k: u32, out: &mut Outputs) -> Result<u64, Halt>
     requires opened { is_some (find number_of k session.old.upstreams.live) ≡ true }
-    requires rest { IsAtRest session.old }
-    requires numbered { (id : ℕ) → has session.old.inbound.rows id ≡ true → id < 2147483648 }
+    requires settled { IsSettled session.old }
     requires reached { (setup : Setup) × Reached setup session.old balanced }
     ensures brings { IfOk result (λ back. (setup : Setup) → Brings setup session.old balanced out.old (Happened (UpFailed k)) session.new
         (back_of back) out.new) }
-    ensures none_cut { OnOk result (NoneCut session.new.offers) }
-    ensures none_but { OnOk result (IfSome (find number_of k session.old.upstreams.live) (λ connection. NoneDoneBut connection.live.stream session.new)) }
-    ensures numbered { OnOk result ((id : ℕ) → has session.new.inbound.rows id ≡ true → id < 2147483648) }
+    ensures mid { OnOk result (IfSome (find number_of k session.old.upstreams.live) (λ connection. IsMidStep connection.live.stream session.new)) }
     ensures over { IfErr result (λ stop. IfOver stop ((setup : Setup)
         → ComesFrom setup session.old balanced out.old (OfEvent (UpFailed k) ∷ []) balanced None out.new)) }
 {

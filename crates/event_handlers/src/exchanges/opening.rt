@@ -5,14 +5,13 @@ ghost use Rattle.model.specs.Causes.{is_front_of};
 ghost use Rattle.model.specs.Setup.{Setup};
 ghost use Rattle.theory_requests.specs.State.Due.{ToSend};
 ghost use Rattle.upstream_response.specs.Waiting.{passing_in};
-ghost use Rattle.window_credit.specs.Sides.{is_past};
 ghost use Rattle.theory_requests.specs.Lines.{find};
 ghost use Rattle.upstream_connections.specs.Connections.{number_of};
 ghost use Rattle.upstream_connections.specs.Requests.{due_for, due_on};
 ghost use Rattle.refinement.specs.View.{balanced};
 ghost use Rattle.refinement.specs.Rest.{Reached};
 ghost use Rattle.refinement.specs.Bringing.{PerformsOwn};
-ghost use Rattle.event_handlers.specs.Closings.{NoneDoneBut};
+ghost use Rattle.event_handlers.specs.MidStep.{IsHandedOn};
 ghost use Rattle.event_handlers.specs.Resting.{IsPassedBy};
 ghost use Rattle.event_handlers.specs.exchanges.Opening.{with_side, with_side_over, IsAbove, IsLast};
 
@@ -112,11 +111,7 @@ pub fn open(
           fresh = fresh;
           shared = back;
         }) out.old session.new (record balanced { fresh = fresh; shared = back }) out.new) }
-    ensures stays { OnOk result ((session.new.inbound ≡ session.old.inbound) × (session.new.offers ≡ session.old.offers)
-        × (session.new.encoding ≡ session.old.encoding)
-        × (session.new.untaken ≡ session.old.untaken)) }
-    ensures none_but { OnOk result ((id : ℕ) → NoneDoneBut id session.old → NoneDoneBut id session.new) }
-    ensures newest { OnOk result (is_past session.old.inbound.last session.old.marks ≡ false → is_past session.old.inbound.last session.new.marks ≡ false) }
+    ensures handed { OnOk result (IsHandedOn session.old session.new) }
 {
     let OutgoingRequest {
         stream,
@@ -169,11 +164,7 @@ pub fn reuse(
           fresh = fresh;
           shared = back;
         }) out.old session.new (record balanced { fresh = fresh; shared = back }) out.new) }
-    ensures stays { OnOk result ((session.new.inbound ≡ session.old.inbound) × (session.new.offers ≡ session.old.offers)
-        × (session.new.encoding ≡ session.old.encoding)
-        × (session.new.untaken ≡ session.old.untaken)) }
-    ensures none_but { OnOk result ((id : ℕ) → NoneDoneBut id session.old → NoneDoneBut id session.new) }
-    ensures newest { OnOk result (is_past session.old.inbound.last session.old.marks ≡ false → is_past session.old.inbound.last session.new.marks ≡ false) }
+    ensures handed { OnOk result (IsHandedOn session.old session.new) }
 {
     let OutgoingRequest {
         stream,
@@ -215,11 +206,7 @@ pub fn send(
           fresh = fresh;
           shared = back;
         }) out.old session.new (record balanced { fresh = fresh; shared = back }) out.new) }
-    ensures stays { OnOk result ((session.new.inbound ≡ session.old.inbound) × (session.new.offers ≡ session.old.offers)
-        × (session.new.encoding ≡ session.old.encoding)
-        × (session.new.untaken ≡ session.old.untaken)) }
-    ensures none_but { OnOk result ((id : ℕ) → NoneDoneBut id session.old → NoneDoneBut id session.new) }
-    ensures newest { OnOk result (is_past session.old.inbound.last session.old.marks ≡ false → is_past session.old.inbound.last session.new.marks ≡ false) }
+    ensures handed { OnOk result (IsHandedOn session.old session.new) }
 {
     let stream = stream_of(session, number);
     let count = text.len() as u64;

@@ -10,6 +10,7 @@ use Rattle.upstream_connections.specs.Connections.{number_of, lives}
 use Rattle.refinement.specs.View.{balanced}
 use Rattle.refinement.specs.Rest.{NoneCut, back_of}
 use Rattle.refinement.proofs.Bringing.{brings_then}
+use Rattle.event_handlers.proofs.MidSteps.{mid_of, mid_returned}
 use Rattle.event_handlers.proofs.Calming.{calm_comes}
 use Rattle.event_handlers.specs.Inputs.Input.{OfEvent}
 use Rattle.event_handlers.specs.Resting.{now_of}
@@ -31,18 +32,6 @@ rest_behind-requires-clause-reached c =
     let returned = c.in_ok-return_dropped.ensures.performs in
     let there = returned.2 before.0 _ here.segment.state here.segment.leads in
     (before.0, returned.0, returned.1, (_, there.segment.state, there.segment.leads))
-
-pub rest_behind-requires-clause-none_cut : goal.rest_behind-requires-clause-none_cut
-rest_behind-requires-clause-none_cut c = subst (λ (o : theory_responses.State). NoneCut o) (sym c.in_ok-return_dropped.ensures.stays.offers) c.in_ok-back.ensures.none_cut
-
-pub rest_behind-requires-clause-none_but : goal.rest_behind-requires-clause-none_but
-rest_behind-requires-clause-none_but c =
-    let stays = c.in_ok-return_dropped.ensures.stays in
-    but_stays c.stream_of-stream.result c.hear.new.session c.return_dropped.new.session stays.served (ap (λ (u : State). lives u.live) stays.upstreams)
-    (of_stream (find number_of c.args.k c.args.session.now.upstreams.live) c.stream_of-stream.result c.hear.new.session (and_parts (is_some (find number_of c.args.k c.args.session.now.upstreams.live)) _ c.requires.admitted).0 c.stream_of-stream.ensures c.in_ok-back.ensures.none_but)
-
-pub rest_behind-requires-clause-numbered : goal.rest_behind-requires-clause-numbered
-rest_behind-requires-clause-numbered c id there = c.in_ok-back.ensures.numbered id (sym (c.in_ok-return_dropped.ensures.stays.opened id) ∙ there)
 
 pub returns-clause-comes : goal.returns-clause-comes
 returns-clause-comes c =
@@ -73,3 +62,8 @@ returns-clause-over c =
     calm_comes setup c.args.session.now c.return_dropped.new.session balanced (back_of returned.0) c.args.out.now c.return_dropped.new.out c.rest_behind.new.out (Happened (Up c.args.k c.args.octets.now)) (OfEvent (Up c.args.k c.args.octets.now)) refl
     (brings_then setup c.args.session.now c.hear.new.session c.return_dropped.new.session balanced (back_of c.in_ok-back.back) (back_of returned.0) c.args.out.now c.hear.new.out c.return_dropped.new.out (Happened (Up c.args.k c.args.octets.now)) (c.in_ok-back.ensures.brings setup keeps) (returned.2 setup))
     (ends returned.0 returned.1 setup)) c.rest_behind.ensures.over
+
+pub rest_behind-requires-clause-mid : goal.rest_behind-requires-clause-mid
+rest_behind-requires-clause-mid c =
+    mid_returned c.stream_of-stream.result c.hear.new.session c.return_dropped.new.session c.in_ok-return_dropped.ensures.stays
+    (mid_of (find number_of c.args.k c.args.session.now.upstreams.live) c.stream_of-stream.result c.hear.new.session (and_parts (is_some (find number_of c.args.k c.args.session.now.upstreams.live)) _ c.requires.admitted).0 c.stream_of-stream.ensures c.in_ok-back.ensures.mid)

@@ -18,10 +18,10 @@ rest-requires-clause-reached c =
     (before.0, before.1, (λ on. before.2 (on_as c.args.session.now c.close_unserved.new.session c.in_ok-close_unserved.ensures.inbound on)), (_, here.segment.state, here.segment.leads))
 
 pub rest-requires-clause-none_cut : goal.rest-requires-clause-none_cut
-rest-requires-clause-none_cut c = subst (λ (o : theory_responses.State). NoneCut o) (sym c.in_ok-close_unserved.ensures.offers) c.requires.none_cut
+rest-requires-clause-none_cut c = subst (λ (o : theory_responses.State). NoneCut o) (sym c.in_ok-close_unserved.ensures.offers) c.requires.mid.none_cut
 
 pub rest-requires-clause-numbered : goal.rest-requires-clause-numbered
-rest-requires-clause-numbered c id kept = c.requires.numbered id (subst (λ (i : Inbound). has i.rows id ≡ true) c.in_ok-close_unserved.ensures.inbound kept)
+rest-requires-clause-numbered c id kept = c.requires.mid.numbered id (subst (λ (i : Inbound). has i.rows id ≡ true) c.in_ok-close_unserved.ensures.inbound kept)
 
 pub returns-clause-follows : goal.returns-clause-follows
 returns-clause-follows c =

@@ -4,6 +4,7 @@ use Rattle.upstream_connections.specs.Kept.{State}
 use Rattle.upstream_connections.specs.Connections.{lives}
 use Rattle.refinement.specs.View.{balanced}
 use Rattle.refinement.specs.Rest.{NoneCut}
+use Rattle.event_handlers.proofs.MidSteps.{mid_returned}
 use Rattle.event_handlers.proofs.Calming.{calm_behind}
 use Rattle.event_handlers.specs.Resting.{now_of}
 use Rattle.event_handlers.proofs.Closings.{but_stays}
@@ -34,16 +35,6 @@ returns-clause-follows c =
     (λ went follows setup.
     follows_then setup c.args.session.now c.settle.new.session (record balanced { fresh = c.args.octets; shared = c.args.dropped }) balanced balanced c.args.out.now c.settle.new.out c.rest_behind.new.out (now_of went c.rest_behind.new.session) (c.in_ok-settle.ensures.performs setup) (follows 0 (λ on. refl) setup)) c.rest_behind.ensures.follows
 
-pub rest_behind-requires-clause-none_cut : goal.rest_behind-requires-clause-none_cut
-rest_behind-requires-clause-none_cut c = subst (λ (o : theory_responses.State). NoneCut o) (sym c.in_ok-settle.ensures.stays.offers) c.requires.none_cut
-
-pub rest_behind-requires-clause-numbered : goal.rest_behind-requires-clause-numbered
-rest_behind-requires-clause-numbered c id there = c.requires.numbered id (sym (c.in_ok-settle.ensures.stays.opened id) ∙ there)
-
-pub rest_behind-requires-clause-none_but : goal.rest_behind-requires-clause-none_but
-rest_behind-requires-clause-none_but c =
-    but_stays c.args.id c.args.session.now c.settle.new.session c.in_ok-settle.ensures.stays.served (ap (λ (u : State). lives u.live) c.in_ok-settle.ensures.stays.upstreams) c.requires.none_but
-
 pub returns-in_err-settle-clause-over : goal.returns-in_err-settle-clause-over
 returns-in_err-settle-clause-over c = stopped c.from_residual-in_err-settle.result c.in_err-settle.field-0.0 c.from_residual-in_err-settle.ensures.1 (λ ends. ends) c.in_err-settle.ensures.over
 
@@ -52,3 +43,6 @@ returns-clause-over c =
     on_over c.rest_behind.result
     (λ ends setup.
     calm_behind setup c.args.session.now c.settle.new.session (record balanced { fresh = c.args.octets; shared = c.args.dropped }) balanced c.args.out.now c.settle.new.out c.rest_behind.new.out (c.in_ok-settle.ensures.performs setup) (ends 0 (λ on. refl) setup)) c.rest_behind.ensures.over
+
+pub rest_behind-requires-clause-mid : goal.rest_behind-requires-clause-mid
+rest_behind-requires-clause-mid c = mid_returned c.args.id c.args.session.now c.settle.new.session c.in_ok-settle.ensures.stays c.requires.mid

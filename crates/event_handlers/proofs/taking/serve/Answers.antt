@@ -5,6 +5,7 @@ use Rattle.refinement.specs.View.{balanced}
 use Rattle.refinement.specs.Rest.{Reached}
 use Rattle.refinement.specs.Bringing.{PerformsOwn}
 use Rattle.refinement.proofs.Bringing.{own_none}
+use Rattle.event_handlers.proofs.MidSteps.{handed_none}
 use Rattle.event_handlers.proofs.Results.{on_ok}
 use Rattle.event_handlers.proofs.taking.serve.Goals as goal
 
@@ -40,3 +41,6 @@ returns-in-ToSend-clause-performs c =
     on_ok c.send.result
     (λ performs setup fresh back passed.
     subst (λ (d : Due). PerformsOwn setup c.args.session.now (record balanced { due = due_by d; fresh = fresh; shared = back }) c.args.out.now c.send.new.session (record balanced { fresh = fresh; shared = back }) c.send.new.out) (sym c.in-ToSend.is) (performs setup fresh back)) c.send.ensures.performs
+
+pub returns-in-Nothing-clause-handed : goal.returns-in-Nothing-clause-handed
+returns-in-Nothing-clause-handed c = handed_none c.args.session.now

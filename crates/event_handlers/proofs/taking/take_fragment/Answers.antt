@@ -11,6 +11,7 @@ use Rattle.streams.specs.Sending.{is_served}
 use Rattle.upstream_connections.specs.Kept.{State}
 use Rattle.upstream_connections.specs.Connections.{lives}
 use Rattle.upstream_connections.specs.Requests.{due_by}
+use Rattle.event_handlers.proofs.MidSteps.{mid_handed, mid_returned, mid_same}
 use Rattle.event_handlers.proofs.Calming.{calm_ends, calm_comes}
 use Rattle.event_handlers.specs.block_frames.Following.{goaway_frames}
 use Rattle.refinement.specs.View.{balanced}
@@ -22,7 +23,7 @@ use Rattle.event_handlers.specs.block_frames.Taken.{IsOutlet}
 use Rattle.event_handlers.specs.declared.taking.ServiceTerms.{ServiceTerms}
 use Rattle.event_handlers.proofs.Closings.{about_but, but_stays}
 use Rattle.event_handlers.proofs.Following.{comes_then}
-use Rattle.event_handlers.proofs.Frames.{numbered_with, block_goes, block_ends, goaway_brings, block_brings, goaway_owed, fatal_comes}
+use Rattle.event_handlers.proofs.Frames.{block_mid, block_goes, block_ends, goaway_brings, block_brings, goaway_owed, fatal_comes}
 use Rattle.event_handlers.proofs.Results.{if_ok, on_over, stopped}
 use Rattle.event_handlers.proofs.taking.take_fragment.Goals as goal
 
@@ -61,31 +62,6 @@ rest_behind-requires-clause-reached c =
     let returned = c.in_ok-return_dropped-in-Goes.ensures.performs in
     let there = returned.2 before.0 _ here.segment.state here.segment.leads in
     (before.0, returned.0, returned.1, (_, there.segment.state, there.segment.leads))
-
-pub rest_behind-requires-clause-none_cut : goal.rest_behind-requires-clause-none_cut
-rest_behind-requires-clause-none_cut c =
-    let before = c.requires.reached in
-    let passed =
-    block_goes before.0 c.args.session.now c.take_block.new.session c.args.out.now c.take_block.new.out (frame_of c.args.view) c.in_ok-code.field-0 c.in-Goes.due c.in-Goes.goaway c.in-Goes.dropped c.in-Goes.is (c.in_ok-code.ensures.taken before.0 before.1.terms (outlet_so before.0 c.args.service c.is_streaming-at_once.result before.1 c.is_streaming-at_once.ensures)) in
-    subst (λ (o : theory_responses.State). NoneCut o) (sym (c.in_ok-return_dropped-in-Goes.ensures.stays.offers ∙ c.in_ok-serve-in-Goes.ensures.stays.1 ∙ c.in_ok-say_goaway-in-Goes.ensures.stays.1)) passed.none_cut
-
-pub rest_behind-requires-clause-none_but : goal.rest_behind-requires-clause-none_but
-rest_behind-requires-clause-none_but c =
-    let before = c.requires.reached in
-    let passed =
-    block_goes before.0 c.args.session.now c.take_block.new.session c.args.out.now c.take_block.new.out (frame_of c.args.view) c.in_ok-code.field-0 c.in-Goes.due c.in-Goes.goaway c.in-Goes.dropped c.in-Goes.is (c.in_ok-code.ensures.taken before.0 before.1.terms (outlet_so before.0 c.args.service c.is_streaming-at_once.result before.1 c.is_streaming-at_once.ensures)) in
-    but_stays c.args.view.id c.serve.new.session c.return_dropped.new.session c.in_ok-return_dropped-in-Goes.ensures.stays.served (ap (λ (u : State). lives u.live) c.in_ok-return_dropped-in-Goes.ensures.stays.upstreams)
-    (c.in_ok-serve-in-Goes.ensures.none_but c.args.view.id
-    (but_stays c.args.view.id c.take_block.new.session c.say_goaway.new.session (λ stream. ap (λ (i : Inbound). is_served i.rows stream) c.in_ok-say_goaway-in-Goes.ensures.stays.0) (ap (λ (u : State). lives u.live) c.in_ok-say_goaway-in-Goes.ensures.upstreams)
-    (about_but c.args.view.id c.args.session.now c.take_block.new.session passed.about c.requires.settled.rest.none_done)))
-
-pub rest_behind-requires-clause-numbered : goal.rest_behind-requires-clause-numbered
-rest_behind-requires-clause-numbered c id kept =
-    let before = c.requires.reached in
-    let passed =
-    block_goes before.0 c.args.session.now c.take_block.new.session c.args.out.now c.take_block.new.out (frame_of c.args.view) c.in_ok-code.field-0 c.in-Goes.due c.in-Goes.goaway c.in-Goes.dropped c.in-Goes.is (c.in_ok-code.ensures.taken before.0 before.1.terms (outlet_so before.0 c.args.service c.is_streaming-at_once.result before.1 c.is_streaming-at_once.ensures)) in
-    numbered_with c.args.session.now c.take_block.new.session c.args.view.id passed.ids c.requires.of_stream c.requires.settled.numbered id
-    (subst (λ (i : Inbound). has i.rows id ≡ true) (c.in_ok-serve-in-Goes.ensures.stays.0 ∙ c.in_ok-say_goaway-in-Goes.ensures.stays.0) (sym (c.in_ok-return_dropped-in-Goes.ensures.stays.opened id) ∙ kept))
 
 pub returns-in_ok-end-in-Fatal-clause-comes : goal.returns-in_ok-end-in-Fatal-clause-comes
 returns-in_ok-end-in-Fatal-clause-comes c setup served =
@@ -146,3 +122,14 @@ returns-in_ok-return_dropped-in-Goes-clause-over c =
     (block_brings setup c.args.session.now c.take_block.new.session c.say_goaway.new.session c.serve.new.session c.args.out.now c.take_block.new.out c.say_goaway.new.out c.serve.new.out (frame_of c.args.view) c.in-Goes.due c.in-Goes.goaway c.in-Goes.dropped passed
     (λ due back. c.in_ok-say_goaway-in-Goes.ensures.performs setup due back) (λ n back. c.in_ok-serve-in-Goes.ensures.performs setup n back served.passing))
     (returned.2 setup)) (ends returned.0 returned.1 setup)) c.rest_behind.ensures.over
+
+pub rest_behind-requires-clause-mid : goal.rest_behind-requires-clause-mid
+rest_behind-requires-clause-mid c =
+    let before = c.requires.reached in
+    let passed =
+    block_goes before.0 c.args.session.now c.take_block.new.session c.args.out.now c.take_block.new.out (frame_of c.args.view) c.in_ok-code.field-0 c.in-Goes.due c.in-Goes.goaway c.in-Goes.dropped c.in-Goes.is (c.in_ok-code.ensures.taken before.0 before.1.terms (outlet_so before.0 c.args.service c.is_streaming-at_once.result before.1 c.is_streaming-at_once.ensures)) in
+    let said = c.in_ok-say_goaway-in-Goes.ensures in
+    mid_returned c.args.view.id c.serve.new.session c.return_dropped.new.session c.in_ok-return_dropped-in-Goes.ensures.stays
+    (mid_handed c.args.view.id c.say_goaway.new.session c.serve.new.session c.in_ok-serve-in-Goes.ensures.handed
+    (mid_same c.args.view.id c.take_block.new.session c.say_goaway.new.session said.stays.0 said.stays.1 said.upstreams
+    (block_mid before.0 c.args.session.now c.take_block.new.session c.args.out.now c.take_block.new.out (frame_of c.args.view) c.in-Goes.due c.in-Goes.goaway c.in-Goes.dropped c.requires.of_stream c.requires.settled passed)))

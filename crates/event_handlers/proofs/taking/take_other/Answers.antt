@@ -9,12 +9,13 @@ use Rattle.streams.specs.Asked.{has}
 use Rattle.window_credit.specs.Sides.{is_past}
 use Rattle.refinement.specs.View.{balanced}
 use Rattle.refinement.specs.Rest.{NoneCut}
+use Rattle.event_handlers.proofs.MidSteps.{mid_handed}
 use Rattle.event_handlers.proofs.Calming.{calm_comes}
 use Rattle.event_handlers.specs.Inputs.Input.{OfFrame}
 use Rattle.event_handlers.specs.Resting.{now_of}
 use Rattle.event_handlers.proofs.Closings.{about_but}
 use Rattle.event_handlers.proofs.Following.{comes_then}
-use Rattle.event_handlers.proofs.Frames.{numbered_as, plain_goes, plain_ends, plain_brings, fatal_comes}
+use Rattle.event_handlers.proofs.Frames.{plain_mid, plain_goes, plain_ends, plain_brings, fatal_comes}
 use Rattle.event_handlers.proofs.Results.{if_ok, on_over, stopped}
 use Rattle.event_handlers.proofs.taking.take_other.Goals as goal
 
@@ -41,7 +42,7 @@ follow-requires-clause-last c =
     let before = c.requires.reached in
     let passed =
     plain_goes before.0 c.args.session.now c.take_plain.new.session c.args.out.now c.take_plain.new.out (frame_of c.args.view) c.in_ok-code.field-0 c.in-Goes.due c.in-Goes.dropped c.in-Goes.is (c.in_ok-code.ensures.taken before.0 before.1.terms.max_body) in
-    sym (ap (λ (i : Inbound). i.last) c.in_ok-serve-in-Goes.ensures.stays.0 ∙ passed.last)
+    sym (ap (λ (i : Inbound). i.last) c.in_ok-serve-in-Goes.ensures.handed.inbound ∙ passed.last)
 
 pub follow-requires-clause-newest : goal.follow-requires-clause-newest
 follow-requires-clause-newest c some =
@@ -49,28 +50,7 @@ follow-requires-clause-newest c some =
     let passed =
     plain_goes before.0 c.args.session.now c.take_plain.new.session c.args.out.now c.take_plain.new.out (frame_of c.args.view) c.in_ok-code.field-0 c.in-Goes.due c.in-Goes.dropped c.in-Goes.is (c.in_ok-code.ensures.taken before.0 before.1.terms.max_body) in
     subst (λ n. is_past n c.serve.new.session.marks ≡ false) passed.last
-    (c.in_ok-serve-in-Goes.ensures.newest (subst (λ n. is_past n c.take_plain.new.session.marks ≡ false) (sym passed.last) (passed.newest (subst (λ n. 0 < n) c.data_octets.ensures some))))
-
-pub follow-requires-clause-none_cut : goal.follow-requires-clause-none_cut
-follow-requires-clause-none_cut c =
-    let before = c.requires.reached in
-    let passed =
-    plain_goes before.0 c.args.session.now c.take_plain.new.session c.args.out.now c.take_plain.new.out (frame_of c.args.view) c.in_ok-code.field-0 c.in-Goes.due c.in-Goes.dropped c.in-Goes.is (c.in_ok-code.ensures.taken before.0 before.1.terms.max_body) in
-    subst (λ (o : theory_responses.State). NoneCut o) (sym c.in_ok-serve-in-Goes.ensures.stays.1) passed.none_cut
-
-pub follow-requires-clause-none_but : goal.follow-requires-clause-none_but
-follow-requires-clause-none_but c =
-    let before = c.requires.reached in
-    let passed =
-    plain_goes before.0 c.args.session.now c.take_plain.new.session c.args.out.now c.take_plain.new.out (frame_of c.args.view) c.in_ok-code.field-0 c.in-Goes.due c.in-Goes.dropped c.in-Goes.is (c.in_ok-code.ensures.taken before.0 before.1.terms.max_body) in
-    c.in_ok-serve-in-Goes.ensures.none_but c.args.view.id (about_but c.args.view.id c.args.session.now c.take_plain.new.session passed.about c.requires.settled.rest.none_done)
-
-pub follow-requires-clause-numbered : goal.follow-requires-clause-numbered
-follow-requires-clause-numbered c id kept =
-    let before = c.requires.reached in
-    let passed =
-    plain_goes before.0 c.args.session.now c.take_plain.new.session c.args.out.now c.take_plain.new.out (frame_of c.args.view) c.in_ok-code.field-0 c.in-Goes.due c.in-Goes.dropped c.in-Goes.is (c.in_ok-code.ensures.taken before.0 before.1.terms.max_body) in
-    numbered_as c.args.session.now c.take_plain.new.session passed.ids c.requires.settled.numbered id (subst (λ (i : Inbound). has i.rows id ≡ true) c.in_ok-serve-in-Goes.ensures.stays.0 kept)
+    (c.in_ok-serve-in-Goes.ensures.handed.newest (subst (λ n. is_past n c.take_plain.new.session.marks ≡ false) (sym passed.last) (passed.newest (subst (λ n. 0 < n) c.data_octets.ensures some))))
 
 pub returns-in_ok-end-in-Fatal-clause-comes : goal.returns-in_ok-end-in-Fatal-clause-comes
 returns-in_ok-end-in-Fatal-clause-comes c setup served =
@@ -101,3 +81,11 @@ returns-in_ok-serve-in-Goes-clause-over c =
     (plain_brings setup c.args.session.now c.take_plain.new.session c.serve.new.session c.args.out.now c.take_plain.new.out c.serve.new.out (frame_of c.args.view) c.in-Goes.due c.in-Goes.dropped c.data_octets.result c.data_octets.ensures
     (plain_goes setup c.args.session.now c.take_plain.new.session c.args.out.now c.take_plain.new.out (frame_of c.args.view) c.in_ok-code.field-0 c.in-Goes.due c.in-Goes.dropped c.in-Goes.is (c.in_ok-code.ensures.taken setup served.terms.max_body))
     (λ n back. c.in_ok-serve-in-Goes.ensures.performs setup n back served.passing)) (ends setup)) c.follow.ensures.over
+
+pub follow-requires-clause-mid : goal.follow-requires-clause-mid
+follow-requires-clause-mid c =
+    let before = c.requires.reached in
+    let passed =
+    plain_goes before.0 c.args.session.now c.take_plain.new.session c.args.out.now c.take_plain.new.out (frame_of c.args.view) c.in_ok-code.field-0 c.in-Goes.due c.in-Goes.dropped c.in-Goes.is (c.in_ok-code.ensures.taken before.0 before.1.terms.max_body) in
+    mid_handed c.args.view.id c.take_plain.new.session c.serve.new.session c.in_ok-serve-in-Goes.ensures.handed
+    (plain_mid before.0 c.args.session.now c.take_plain.new.session c.args.out.now c.take_plain.new.out (frame_of c.args.view) c.in-Goes.due c.in-Goes.dropped c.requires.settled passed)

@@ -8,7 +8,8 @@ use Rattle.window_credit.specs.Sides.{Side, is_above_all, is_past}
 use Rattle.refinement.specs.View.{View, balanced}
 use Rattle.refinement.specs.Rest.{told_view}
 use Rattle.refinement.specs.Bringing.{PerformsOwn}
-use Rattle.event_handlers.specs.Closings.{NoneDoneBut}
+use Rattle.event_handlers.specs.MidStep.{IsHandedOn}
+use Rattle.event_handlers.proofs.MidSteps.{handed_as}
 use Rattle.event_handlers.specs.exchanges.Opening.{with_side}
 use Rattle.event_handlers.proofs.exchanges.Newest.{past_opened}
 use Rattle.event_handlers.proofs.exchanges.Opens.{above, room_for_one, stream_served, opens_but, calls_perform}
@@ -38,8 +39,8 @@ returns-clause-performs c =
     (c.asks_for_head-to_head.ensures ∙ ap (λ x. is_front_of (codes "HEAD ") x) c.as_slice.ensures) c.open.ensures.stands c.in_ok-k.ensures.number (ap (λ (x : List ℕ). length x) c.as_slice-2.ensures) c.in_ok-k.ensures.opened c.put.ensures refl c.in_ok-open_up.ensures puts setup fresh back passed)))
     c.send_up.ensures
 
-pub returns-clause-none_but : goal.returns-clause-none_but
-returns-clause-none_but c =
+pub returns-clause-handed : goal.returns-clause-handed
+returns-clause-handed c =
     let r = c.requires.reached in
     let old : View = record { inbound = c.session.inside.inbound; offers = c.session.inside.offers; upstreams = c.session.inside.upstreams; marks = c.session.inside.marks; encoding = c.session.inside.encoder; untaken = c.session.inside.untaken } in
     let sides : List Side = with_side (passing_in c.args.passing) c.args.request.stream c.in_ok-k.k (length c.as_slice-2.result.now) old.marks in
@@ -47,17 +48,10 @@ returns-clause-none_but c =
     ap (λ (v : View). (told_view v).served c.args.request.stream) c.session.view_is
     ∙ stream_served r.0 c.args.session.now r.2 r.3 c.args.request.stream c.args.request.route c.args.request.text (stage_of c.args.request.rest) r.4.0 r.4.1 r.4.2 in
     on_ok_weaker c.send_up.result
-    (λ puts id.
-    subst (λ (v : View). NoneDoneBut id c.args.session.now → NoneDoneBut id v) (sym c.in_ok-begin_counting.ensures)
-    (subst (λ (v : View). NoneDoneBut id v → NoneDoneBut id (record old { upstreams = c.put.new.self; marks = sides })) c.session.view_is
-    (opens_but old c.args.request.stream c.args.request.route c.in_ok-k.k (length c.as_slice-2.result.now) c.asks_for_head-to_head.result c.args.passing (stage_of c.args.request.rest) c.open.new.self c.put.new.self sides served c.in_ok-k.ensures.opened c.put.ensures id)))
-    c.send_up.ensures
-
-pub returns-clause-newest : goal.returns-clause-newest
-returns-clause-newest c =
-    on_ok_weaker c.send_up.result
-    (λ puts was.
-    subst (λ (v : View). is_past c.args.session.now.inbound.last v.marks ≡ false) (sym c.in_ok-begin_counting.ensures)
-    (past_opened (passing_in c.args.passing) c.args.session.now.inbound.last c.args.request.stream c.in_ok-k.k (length c.as_slice-2.result.now) c.session.inside.marks
-    (subst (λ (v : View). is_past c.args.session.now.inbound.last v.marks ≡ false) (sym c.session.view_is) was)))
+    (λ puts.
+    subst (λ (v : View). IsHandedOn c.args.session.now v) (sym c.in_ok-begin_counting.ensures)
+    (subst (λ (v : View). IsHandedOn v (record old { upstreams = c.put.new.self; marks = sides })) c.session.view_is
+    (handed_as old c.put.new.self sides
+    (opens_but old c.args.request.stream c.args.request.route c.in_ok-k.k (length c.as_slice-2.result.now) c.asks_for_head-to_head.result c.args.passing (stage_of c.args.request.rest) c.open.new.self c.put.new.self sides served c.in_ok-k.ensures.opened c.put.ensures)
+    (past_opened (passing_in c.args.passing) old.inbound.last c.args.request.stream c.in_ok-k.k (length c.as_slice-2.result.now) old.marks))))
     c.send_up.ensures

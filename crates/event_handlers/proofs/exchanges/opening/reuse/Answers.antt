@@ -11,7 +11,8 @@ use Rattle.window_credit.specs.Sides.{Side, is_above_all, is_past}
 use Rattle.refinement.specs.View.{View, balanced}
 use Rattle.refinement.specs.Rest.{told_view}
 use Rattle.refinement.specs.Bringing.{PerformsOwn}
-use Rattle.event_handlers.specs.Closings.{NoneDoneBut}
+use Rattle.event_handlers.specs.MidStep.{IsHandedOn}
+use Rattle.event_handlers.proofs.MidSteps.{handed_as}
 use Rattle.event_handlers.specs.exchanges.Opening.{with_side_over, IsLast}
 use Rattle.event_handlers.proofs.exchanges.Newest.{past_over, last_unmarked}
 use Rattle.event_handlers.proofs.exchanges.Reuses.{open_there, above_them, served_here, within_them, room_then, calls_use, uses_but}
@@ -64,30 +65,20 @@ returns-clause-performs c =
     (c.asks_for_head-to_head.ensures ∙ ap (λ x. is_front_of (codes "HEAD ") x) c.as_slice-2.ensures) c.give.ensures.stands (ap (λ (x : List ℕ). length x) c.as_slice.ensures) c.in_ok-give.ensures.given c.put.ensures refl puts setup fresh back passed)))
     c.send_up.ensures
 
-pub returns-clause-none_but : goal.returns-clause-none_but
-returns-clause-none_but c =
+pub returns-clause-handed : goal.returns-clause-handed
+returns-clause-handed c =
     let r = c.requires.reached in
     let old : View = record { inbound = c.session.inside.inbound; offers = c.session.inside.offers; upstreams = c.session.inside.upstreams; marks = c.session.inside.marks; encoding = c.session.inside.encoder; untaken = c.session.inside.untaken } in
-    let there = open_there r.0 c.args.session.now r.2 r.3 c.args.number c.args.request.stream c.args.request.text (stage_of c.args.request.rest) r.4.0 r.4.1 r.4.2 in
-    let last : IsLast there.0 c.last_of-from.result.0 c.last_of-from.result.1 = subst (λ (o : Option Connection). IfSome o (λ x. IsLast x c.last_of-from.result.0 c.last_of-from.result.1)) there.1 c.last_of-from.ensures in
     let sides : List Side = with_side_over (passing_in c.args.passing) c.last_of-from.result.0 c.args.request.stream c.args.number c.in-Some.put_out c.last_of-from.result.1.taken old.marks in
     let served : (told_view old).served c.args.request.stream ≡ true =
     ap (λ (v : View). (told_view v).served c.args.request.stream) c.session.view_is
     ∙ served_here r.0 c.args.session.now r.2 r.3 c.args.number c.args.request.stream c.args.request.text (stage_of c.args.request.rest) r.4.0 r.4.1 r.4.2 in
     on_ok_weaker c.send_up.result
-    (λ puts id.
-    subst (λ (v : View). NoneDoneBut id c.args.session.now → NoneDoneBut id v) (sym c.in_ok-go_on_counting.ensures)
-    (subst (λ (v : View). NoneDoneBut id v → NoneDoneBut id (record old { upstreams = c.put.new.self; marks = sides })) c.session.view_is
-    (uses_but old c.args.number c.args.request.stream (length c.as_slice.result.now) c.asks_for_head-to_head.result c.args.passing (stage_of c.args.request.rest) c.give.new.self c.put.new.self sides served c.in_ok-give.ensures.given c.put.ensures id)))
-    c.send_up.ensures
-
-pub returns-clause-newest : goal.returns-clause-newest
-returns-clause-newest c =
-    let r = c.requires.reached in
-    on_ok_weaker c.send_up.result
-    (λ puts was.
-    subst (λ (v : View). is_past c.args.session.now.inbound.last v.marks ≡ false) (sym c.in_ok-go_on_counting.ensures)
-    (past_over (passing_in c.args.passing) c.args.session.now.inbound.last c.last_of-from.result.0 c.args.request.stream c.args.number c.in-Some.put_out c.last_of-from.result.1.taken c.session.inside.marks
-    (subst (λ (v : View). find_side c.args.session.now.inbound.last v.marks ≡ None) (sym c.session.view_is)
-    (last_unmarked r.0 c.args.session.now r.2 r.3 c.args.number c.args.request.stream c.args.request.text (stage_of c.args.request.rest) r.4.0 r.4.1 r.4.2))))
+    (λ puts.
+    subst (λ (v : View). IsHandedOn c.args.session.now v) (sym c.in_ok-go_on_counting.ensures)
+    (subst (λ (v : View). IsHandedOn v (record old { upstreams = c.put.new.self; marks = sides })) c.session.view_is
+    (handed_as old c.put.new.self sides
+    (uses_but old c.args.number c.args.request.stream (length c.as_slice.result.now) c.asks_for_head-to_head.result c.args.passing (stage_of c.args.request.rest) c.give.new.self c.put.new.self sides served c.in_ok-give.ensures.given c.put.ensures)
+    (λ was. past_over (passing_in c.args.passing) old.inbound.last c.last_of-from.result.0 c.args.request.stream c.args.number c.in-Some.put_out c.last_of-from.result.1.taken old.marks
+    (ap (λ (v : View). find_side v.inbound.last v.marks) c.session.view_is ∙ last_unmarked r.0 c.args.session.now r.2 r.3 c.args.number c.args.request.stream c.args.request.text (stage_of c.args.request.rest) r.4.0 r.4.1 r.4.2)))))
     c.send_up.ensures

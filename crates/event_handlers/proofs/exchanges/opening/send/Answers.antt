@@ -11,7 +11,8 @@ use Rattle.theory_requests.specs.State.Due.{ToSend}
 use Rattle.upstream_connections.specs.Connections.{Connection, number_of, HasRoom}
 use Rattle.refinement.specs.View.{View, balanced}
 use Rattle.refinement.specs.Bringing.{PerformsOwn}
-use Rattle.event_handlers.specs.Closings.{NoneDoneBut}
+use Rattle.event_handlers.specs.MidStep.{IsHandedOn}
+use Rattle.event_handlers.proofs.MidSteps.{handed_as}
 use Rattle.event_handlers.proofs.exchanges.Newest.{past_put}
 use Rattle.event_handlers.proofs.exchanges.Sends.{open_there, side_room, stream_is, calls_send, sends_but}
 use Rattle.event_handlers.proofs.exchanges.opening.send.Goals as goal
@@ -41,21 +42,14 @@ returns-clause-performs c =
     (subst (λ (v : View). IfSome (find number_of c.args.number v.upstreams.live) (λ x. c.stream_of-stream.result ≡ x.live.stream)) (sym c.session.view_is) c.stream_of-stream.ensures) (search rules) c.put.ensures c.put-2.ensures puts setup fresh back))
     (subst (λ (t : List ℕ). OnOk c.send_up.result (c.send_up.new.self ≡ put c.args.out.now (Does (ToUp c.args.number t)))) c.from_octets.ensures c.send_up.ensures)
 
-pub returns-clause-none_but : goal.returns-clause-none_but
-returns-clause-none_but c =
+pub returns-clause-handed : goal.returns-clause-handed
+returns-clause-handed c =
     let old : View = record { inbound = c.session.inside.inbound; offers = c.session.inside.offers; upstreams = c.session.inside.upstreams; marks = c.session.inside.marks; encoding = c.session.inside.encoder; untaken = c.session.inside.untaken } in
     on_ok_weaker c.send_up.result
-    (λ puts id.
-    subst (λ (v : View). NoneDoneBut id v → NoneDoneBut id (record old { upstreams = c.put.new.self; marks = c.put-2.new.self })) c.session.view_is
+    (λ puts.
+    subst (λ (v : View). IsHandedOn v (record old { upstreams = c.put.new.self; marks = c.put-2.new.self })) c.session.view_is
+    (handed_as old c.put.new.self c.put-2.new.self
     (sends_but old c.args.number c.stream_of-stream.result c.len-count.result c.args.text.items c.put.new.self c.put-2.new.self c.args.out.now c.send_up.new.self
-    (subst (λ (v : View). IfSome (find number_of c.args.number v.upstreams.live) (λ x. c.stream_of-stream.result ≡ x.live.stream)) (sym c.session.view_is) c.stream_of-stream.ensures) (search rules) c.put.ensures c.put-2.ensures puts id))
+    (subst (λ (v : View). IfSome (find number_of c.args.number v.upstreams.live) (λ x. c.stream_of-stream.result ≡ x.live.stream)) (sym c.session.view_is) c.stream_of-stream.ensures) (search rules) c.put.ensures c.put-2.ensures puts)
+    (λ was. ap (is_past old.inbound.last) c.put-2.ensures ∙ past_put old.inbound.last c.stream_of-stream.result c.len-count.result old.marks ∙ was)))
     (subst (λ (t : List ℕ). OnOk c.send_up.result (c.send_up.new.self ≡ put c.args.out.now (Does (ToUp c.args.number t)))) c.from_octets.ensures c.send_up.ensures)
-
-pub returns-clause-newest : goal.returns-clause-newest
-returns-clause-newest c =
-    on_ok_weaker c.send_up.result
-    (λ puts was.
-    subst (λ (ms : List Side). is_past c.args.session.now.inbound.last ms ≡ false) (sym c.put-2.ensures)
-    (past_put c.args.session.now.inbound.last c.stream_of-stream.result c.len-count.result c.session.inside.marks
-    ∙ subst (λ (v : View). is_past c.args.session.now.inbound.last v.marks ≡ false) (sym c.session.view_is) was))
-    c.send_up.ensures

@@ -15,8 +15,8 @@ ghost use Rattle.event_handlers.specs.exchanges.Finishing.{IsKeeping};
 use crate::exchanges;
 use crate::exchanges::stream_of;
 use crate::halt::Halt;
-use crate::paying::{is_nothing, note_client_took, note_up_took, return_dropped, return_taken};
-use crate::resting::{Onward, conclude, rest, rest_behind};
+use crate::paying::{is_nothing, note_client_took, note_up_took, return_taken};
+use crate::resting::{Onward, come_to_rest, conclude, rest};
 use effects::Outputs;
 use protocol::limits::HIGH_WATER;
 use refinement::Session;
@@ -44,8 +44,7 @@ fn hear_to_rest(
 {
     let stream = stream_of(session, k);
     let back = exchanges::hear(alloc, session, k, octets, keep, most_idle, out)?;
-    return_dropped(session, back, out)?;
-    rest_behind(alloc, session, stream, out)
+    come_to_rest(alloc, session, stream, back, out)
 }
 
 /// Takes octets of an open upstream, at most 65,536. An `Err` says that memory was refused; then
@@ -88,8 +87,7 @@ fn end_to_rest(
 {
     let stream = stream_of(session, k);
     let back = exchanges::end(alloc, session, k, out)?;
-    return_dropped(session, back, out)?;
-    rest_behind(alloc, session, stream, out)
+    come_to_rest(alloc, session, stream, back, out)
 }
 
 /// Takes the end of an open upstream's connection. An `Err` says that memory was refused; then what
@@ -129,8 +127,7 @@ fn fail_to_rest(
 {
     let stream = stream_of(session, k);
     let back = exchanges::fail(session, k, out)?;
-    return_dropped(session, back, out)?;
-    rest_behind(alloc, session, stream, out)
+    come_to_rest(alloc, session, stream, back, out)
 }
 
 /// Takes the failure of an open upstream's connection. An `Err` says that memory was refused; then

@@ -8,12 +8,12 @@ ghost use Rattle.refinement.specs.Rest.{NoneCut, NoneDone, Reached, back_of, IsB
 ghost use Rattle.event_handlers.specs.Comings.{FollowsFrom};
 ghost use Rattle.event_handlers.specs.MidStep.{IsMidStep};
 ghost use Rattle.event_handlers.specs.Resting.{now_of, RestsSo};
-ghost use Rattle.event_handlers.specs.Stopping.{Concludes, IfOver, EndsBack};
+ghost use Rattle.event_handlers.specs.Stopping.{Concludes, IfOver, EndsBack, EndsFrom};
 
 use crate::ending::shut;
 use crate::flushing::flush;
 use crate::halt::Halt;
-use crate::paying::close_unserved;
+use crate::paying::{close_unserved, return_dropped};
 use effects::Outputs;
 use refinement::Session;
 use std::alloc::{AllocError, Global};
@@ -37,6 +37,27 @@ pub(crate) fn conclude(stepped: Result<Onward, Halt>) -> Result<Onward, AllocErr
         Err(Halt::Over) => Ok(Onward::Over),
         Err(Halt::Memory) => Err(AllocError),
     }
+}
+
+/// Octets that waited of a stream that is over go back on the connection; then connections of the
+/// stream that a step was about are closed, if that isn't served any more, and the gateway comes to
+/// rest.
+pub(crate) fn come_to_rest(
+    alloc: Global,
+    session: &mut Session,
+    id: u32,
+    dropped: u64,
+    out: &mut Outputs,
+) -> Result<Onward, Halt>
+    requires reached { (setup : Setup) × Reached setup session.old (back_of dropped) }
+    requires mid { IsMidStep id session.old }
+    ensures follows { IfOk result (λ went. (setup : Setup)
+        → FollowsFrom setup session.old (back_of dropped) out.old balanced (now_of went session.new) out.new) }
+    ensures rests { IfOk result (λ went. RestsSo went session.new) }
+    ensures over { IfErr result (λ stop. IfOver stop ((setup : Setup) → EndsFrom setup session.old (back_of dropped) out.old out.new)) }
+{
+    return_dropped(session, dropped, out)?;
+    rest_behind(alloc, session, id, out)
 }
 
 /// Connections of the stream that a step was about are closed, if that isn't served any more; then

@@ -25,9 +25,9 @@ use crate::block_frames::{BlockTaken, Outlet, take_block};
 use crate::ending::{Ending, end, shut};
 use crate::exchanges::{open, reuse, send};
 use crate::halt::Halt;
-use crate::paying::{Control, pay, return_dropped, settle};
+use crate::paying::{Control, pay, settle};
 use crate::plain_frames::{TakenFrame, take_plain};
-use crate::resting::{Onward, conclude, rest_behind};
+use crate::resting::{Onward, come_to_rest, conclude, rest_behind};
 use connection_state::Terms;
 use effects::Outputs;
 use frames::View;
@@ -204,8 +204,7 @@ fn take_fragment(
         } => {
             say_goaway(session, goaway, out)?;
             serve(session, due, service.passing, out)?;
-            return_dropped(session, dropped, out)?;
-            rest_behind(alloc, session, view.id, out)
+            come_to_rest(alloc, session, view.id, dropped, out)
         }
     }
 }

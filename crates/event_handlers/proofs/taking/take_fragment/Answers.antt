@@ -11,7 +11,7 @@ use Rattle.streams.specs.Sending.{is_served}
 use Rattle.upstream_connections.specs.Kept.{State}
 use Rattle.upstream_connections.specs.Connections.{lives}
 use Rattle.upstream_connections.specs.Requests.{due_by}
-use Rattle.event_handlers.proofs.MidSteps.{mid_handed, mid_returned, mid_same}
+use Rattle.event_handlers.proofs.MidSteps.{mid_handed, mid_same}
 use Rattle.event_handlers.proofs.Calming.{calm_ends, calm_comes}
 use Rattle.event_handlers.specs.block_frames.Following.{goaway_frames}
 use Rattle.refinement.specs.View.{balanced}
@@ -41,47 +41,12 @@ serve-requires c =
     (λ due back. c.in_ok-say_goaway-in-Goes.ensures.performs before.0 due back) before.2.0 before.2.1 before.2.2 in
     record { reached = (before.0, before.1.passing, 0, c.in-Goes.dropped, (_, here.segment.state, here.segment.leads)) }
 
-pub return_dropped-requires : goal.return_dropped-requires
-return_dropped-requires c =
-    let before = c.requires.reached in
-    let passed =
-    block_goes before.0 c.args.session.now c.take_block.new.session c.args.out.now c.take_block.new.out (frame_of c.args.view) c.in_ok-code.field-0 c.in-Goes.due c.in-Goes.goaway c.in-Goes.dropped c.in-Goes.is (c.in_ok-code.ensures.taken before.0 before.1.terms (outlet_so before.0 c.args.service c.is_streaming-at_once.result before.1 c.is_streaming-at_once.ensures)) in
-    let here =
-    block_brings before.0 c.args.session.now c.take_block.new.session c.say_goaway.new.session c.serve.new.session c.args.out.now c.take_block.new.out c.say_goaway.new.out c.serve.new.out (frame_of c.args.view) c.in-Goes.due c.in-Goes.goaway c.in-Goes.dropped passed
-    (λ due back. c.in_ok-say_goaway-in-Goes.ensures.performs before.0 due back) (λ n back. c.in_ok-serve-in-Goes.ensures.performs before.0 n back before.1.passing) before.2.0 before.2.1 before.2.2 in
-    record { reached = (before.0, (_, here.segment.state, here.segment.leads)) }
-
-pub rest_behind-requires-clause-reached : goal.rest_behind-requires-clause-reached
-rest_behind-requires-clause-reached c =
-    let before = c.requires.reached in
-    let passed =
-    block_goes before.0 c.args.session.now c.take_block.new.session c.args.out.now c.take_block.new.out (frame_of c.args.view) c.in_ok-code.field-0 c.in-Goes.due c.in-Goes.goaway c.in-Goes.dropped c.in-Goes.is (c.in_ok-code.ensures.taken before.0 before.1.terms (outlet_so before.0 c.args.service c.is_streaming-at_once.result before.1 c.is_streaming-at_once.ensures)) in
-    let here =
-    block_brings before.0 c.args.session.now c.take_block.new.session c.say_goaway.new.session c.serve.new.session c.args.out.now c.take_block.new.out c.say_goaway.new.out c.serve.new.out (frame_of c.args.view) c.in-Goes.due c.in-Goes.goaway c.in-Goes.dropped passed
-    (λ due back. c.in_ok-say_goaway-in-Goes.ensures.performs before.0 due back) (λ n back. c.in_ok-serve-in-Goes.ensures.performs before.0 n back before.1.passing) before.2.0 before.2.1 before.2.2 in
-    let returned = c.in_ok-return_dropped-in-Goes.ensures.performs in
-    let there = returned.2 before.0 _ here.segment.state here.segment.leads in
-    (before.0, returned.0, returned.1, (_, there.segment.state, there.segment.leads))
-
 pub returns-in_ok-end-in-Fatal-clause-comes : goal.returns-in_ok-end-in-Fatal-clause-comes
 returns-in_ok-end-in-Fatal-clause-comes c setup served =
     let fatal =
     block_ends setup c.args.session.now c.take_block.new.session c.args.out.now c.take_block.new.out (frame_of c.args.view) c.in_ok-code.field-0 c.in-Fatal.code c.in-Fatal.is (c.in_ok-code.ensures.taken setup served.terms (outlet_so setup c.args.service c.is_streaming-at_once.result served c.is_streaming-at_once.ensures)) in
     fatal_comes setup c.args.session.now c.take_block.new.session c.args.out.now c.take_block.new.out c.end.new.out (frame_of c.args.view) fatal.note (λ s. fatal.next) c.in-Fatal.code c.requires.settled.rest fatal.nothing_put fatal.upstreams fatal.rows fatal.untaken fatal.fault fatal.fatal
     (λ run s kept d. c.in_ok-end-in-Fatal.ensures setup run s kept d)
-
-pub returns-in_ok-return_dropped-in-Goes-clause-comes : goal.returns-in_ok-return_dropped-in-Goes-clause-comes
-returns-in_ok-return_dropped-in-Goes-clause-comes c =
-    if_ok c.rest_behind.result
-    (λ went follows setup served.
-    let passed =
-    block_goes setup c.args.session.now c.take_block.new.session c.args.out.now c.take_block.new.out (frame_of c.args.view) c.in_ok-code.field-0 c.in-Goes.due c.in-Goes.goaway c.in-Goes.dropped c.in-Goes.is (c.in_ok-code.ensures.taken setup served.terms (outlet_so setup c.args.service c.is_streaming-at_once.result served c.is_streaming-at_once.ensures)) in
-    let returned = c.in_ok-return_dropped-in-Goes.ensures.performs in
-    comes_then setup c.args.session.now c.return_dropped.new.session balanced (back_of returned.0) balanced c.args.out.now c.return_dropped.new.out c.rest_behind.new.out (Came (record { frame = frame_of c.args.view; note = passed.note })) (OfFrame (frame_of c.args.view)) (now_of went c.rest_behind.new.session) refl
-    (brings_then setup c.args.session.now c.serve.new.session c.return_dropped.new.session balanced (back_of c.in-Goes.dropped) (back_of returned.0) c.args.out.now c.serve.new.out c.return_dropped.new.out (Came (record { frame = frame_of c.args.view; note = passed.note }))
-    (block_brings setup c.args.session.now c.take_block.new.session c.say_goaway.new.session c.serve.new.session c.args.out.now c.take_block.new.out c.say_goaway.new.out c.serve.new.out (frame_of c.args.view) c.in-Goes.due c.in-Goes.goaway c.in-Goes.dropped passed
-    (λ due back. c.in_ok-say_goaway-in-Goes.ensures.performs setup due back) (λ n back. c.in_ok-serve-in-Goes.ensures.performs setup n back served.passing))
-    (returned.2 setup)) (follows returned.0 returned.1 setup)) c.rest_behind.ensures.follows
 
 -- ---- the connection ends in place of a frame
 
@@ -100,36 +65,44 @@ returns-in_err-say_goaway-in-Goes-clause-over c =
     passed.brings
     (calm_ends setup c.take_block.new.session (record balanced { owed = goaway_frames c.in-Goes.goaway; due = due_by c.in-Goes.due; shared = c.in-Goes.dropped }) (inl (goaway_owed c.in-Goes.goaway ends.0)) (passed.alone ends.0 ends.1.0) c.take_block.new.out c.say_goaway.new.out ends.1)) c.in_err-say_goaway-in-Goes.ensures.over
 
-pub returns-in_err-return_dropped-in-Goes-clause-over : goal.returns-in_err-return_dropped-in-Goes-clause-over
-returns-in_err-return_dropped-in-Goes-clause-over c =
-    stopped c.from_residual-in_err-return_dropped-in-Goes.result c.in_err-return_dropped-in-Goes.field-0.0 c.from_residual-in_err-return_dropped-in-Goes.ensures.1
-    (λ ends setup served.
+pub come_to_rest-requires-clause-reached : goal.come_to_rest-requires-clause-reached
+come_to_rest-requires-clause-reached c =
+    let before = c.requires.reached in
     let passed =
-    block_goes setup c.args.session.now c.take_block.new.session c.args.out.now c.take_block.new.out (frame_of c.args.view) c.in_ok-code.field-0 c.in-Goes.due c.in-Goes.goaway c.in-Goes.dropped c.in-Goes.is (c.in_ok-code.ensures.taken setup served.terms (outlet_so setup c.args.service c.is_streaming-at_once.result served c.is_streaming-at_once.ensures)) in
-    calm_comes setup c.args.session.now c.serve.new.session balanced (back_of c.in-Goes.dropped) c.args.out.now c.serve.new.out c.return_dropped.new.out (Came (record { frame = frame_of c.args.view; note = passed.note })) (OfFrame (frame_of c.args.view)) refl
-    (block_brings setup c.args.session.now c.take_block.new.session c.say_goaway.new.session c.serve.new.session c.args.out.now c.take_block.new.out c.say_goaway.new.out c.serve.new.out (frame_of c.args.view) c.in-Goes.due c.in-Goes.goaway c.in-Goes.dropped passed
-    (λ due back. c.in_ok-say_goaway-in-Goes.ensures.performs setup due back) (λ n back. c.in_ok-serve-in-Goes.ensures.performs setup n back served.passing)) (ends setup)) c.in_err-return_dropped-in-Goes.ensures.over
+    block_goes before.0 c.args.session.now c.take_block.new.session c.args.out.now c.take_block.new.out (frame_of c.args.view) c.in_ok-code.field-0 c.in-Goes.due c.in-Goes.goaway c.in-Goes.dropped c.in-Goes.is (c.in_ok-code.ensures.taken before.0 before.1.terms (outlet_so before.0 c.args.service c.is_streaming-at_once.result before.1 c.is_streaming-at_once.ensures)) in
+    let here =
+    block_brings before.0 c.args.session.now c.take_block.new.session c.say_goaway.new.session c.serve.new.session c.args.out.now c.take_block.new.out c.say_goaway.new.out c.serve.new.out (frame_of c.args.view) c.in-Goes.due c.in-Goes.goaway c.in-Goes.dropped passed
+    (λ due back. c.in_ok-say_goaway-in-Goes.ensures.performs before.0 due back) (λ n back. c.in_ok-serve-in-Goes.ensures.performs before.0 n back before.1.passing) before.2.0 before.2.1 before.2.2 in
+    (before.0, (_, here.segment.state, here.segment.leads))
 
-pub returns-in_ok-return_dropped-in-Goes-clause-over : goal.returns-in_ok-return_dropped-in-Goes-clause-over
-returns-in_ok-return_dropped-in-Goes-clause-over c =
-    on_over c.rest_behind.result
-    (λ ends setup served.
-    let passed =
-    block_goes setup c.args.session.now c.take_block.new.session c.args.out.now c.take_block.new.out (frame_of c.args.view) c.in_ok-code.field-0 c.in-Goes.due c.in-Goes.goaway c.in-Goes.dropped c.in-Goes.is (c.in_ok-code.ensures.taken setup served.terms (outlet_so setup c.args.service c.is_streaming-at_once.result served c.is_streaming-at_once.ensures)) in
-    let returned = c.in_ok-return_dropped-in-Goes.ensures.performs in
-    calm_comes setup c.args.session.now c.return_dropped.new.session balanced (back_of returned.0) c.args.out.now c.return_dropped.new.out c.rest_behind.new.out (Came (record { frame = frame_of c.args.view; note = passed.note })) (OfFrame (frame_of c.args.view)) refl
-    (brings_then setup c.args.session.now c.serve.new.session c.return_dropped.new.session balanced (back_of c.in-Goes.dropped) (back_of returned.0) c.args.out.now c.serve.new.out c.return_dropped.new.out (Came (record { frame = frame_of c.args.view; note = passed.note }))
-    (block_brings setup c.args.session.now c.take_block.new.session c.say_goaway.new.session c.serve.new.session c.args.out.now c.take_block.new.out c.say_goaway.new.out c.serve.new.out (frame_of c.args.view) c.in-Goes.due c.in-Goes.goaway c.in-Goes.dropped passed
-    (λ due back. c.in_ok-say_goaway-in-Goes.ensures.performs setup due back) (λ n back. c.in_ok-serve-in-Goes.ensures.performs setup n back served.passing))
-    (returned.2 setup)) (ends returned.0 returned.1 setup)) c.rest_behind.ensures.over
-
-pub rest_behind-requires-clause-mid : goal.rest_behind-requires-clause-mid
-rest_behind-requires-clause-mid c =
+pub come_to_rest-requires-clause-mid : goal.come_to_rest-requires-clause-mid
+come_to_rest-requires-clause-mid c =
     let before = c.requires.reached in
     let passed =
     block_goes before.0 c.args.session.now c.take_block.new.session c.args.out.now c.take_block.new.out (frame_of c.args.view) c.in_ok-code.field-0 c.in-Goes.due c.in-Goes.goaway c.in-Goes.dropped c.in-Goes.is (c.in_ok-code.ensures.taken before.0 before.1.terms (outlet_so before.0 c.args.service c.is_streaming-at_once.result before.1 c.is_streaming-at_once.ensures)) in
     let said = c.in_ok-say_goaway-in-Goes.ensures in
-    mid_returned c.args.view.id c.serve.new.session c.return_dropped.new.session c.in_ok-return_dropped-in-Goes.ensures.stays
-    (mid_handed c.args.view.id c.say_goaway.new.session c.serve.new.session c.in_ok-serve-in-Goes.ensures.handed
+    mid_handed c.args.view.id c.say_goaway.new.session c.serve.new.session c.in_ok-serve-in-Goes.ensures.handed
     (mid_same c.args.view.id c.take_block.new.session c.say_goaway.new.session said.stays.0 said.stays.1 said.upstreams
-    (block_mid before.0 c.args.session.now c.take_block.new.session c.args.out.now c.take_block.new.out (frame_of c.args.view) c.in-Goes.due c.in-Goes.goaway c.in-Goes.dropped c.requires.of_stream c.requires.settled passed)))
+    (block_mid before.0 c.args.session.now c.take_block.new.session c.args.out.now c.take_block.new.out (frame_of c.args.view) c.in-Goes.due c.in-Goes.goaway c.in-Goes.dropped c.requires.of_stream c.requires.settled passed))
+
+pub returns-in_ok-serve-in-Goes-clause-comes : goal.returns-in_ok-serve-in-Goes-clause-comes
+returns-in_ok-serve-in-Goes-clause-comes c =
+    if_ok c.come_to_rest.result
+    (λ went follows setup served.
+    let passed =
+    block_goes setup c.args.session.now c.take_block.new.session c.args.out.now c.take_block.new.out (frame_of c.args.view) c.in_ok-code.field-0 c.in-Goes.due c.in-Goes.goaway c.in-Goes.dropped c.in-Goes.is (c.in_ok-code.ensures.taken setup served.terms (outlet_so setup c.args.service c.is_streaming-at_once.result served c.is_streaming-at_once.ensures)) in
+    comes_then setup c.args.session.now c.serve.new.session balanced (back_of c.in-Goes.dropped) balanced c.args.out.now c.serve.new.out c.come_to_rest.new.out (Came (record { frame = frame_of c.args.view; note = passed.note })) (OfFrame (frame_of c.args.view)) (now_of went c.come_to_rest.new.session) refl
+    (block_brings setup c.args.session.now c.take_block.new.session c.say_goaway.new.session c.serve.new.session c.args.out.now c.take_block.new.out c.say_goaway.new.out c.serve.new.out (frame_of c.args.view) c.in-Goes.due c.in-Goes.goaway c.in-Goes.dropped passed
+    (λ due back. c.in_ok-say_goaway-in-Goes.ensures.performs setup due back) (λ n back. c.in_ok-serve-in-Goes.ensures.performs setup n back served.passing))
+    (follows setup)) c.come_to_rest.ensures.follows
+
+pub returns-in_ok-serve-in-Goes-clause-over : goal.returns-in_ok-serve-in-Goes-clause-over
+returns-in_ok-serve-in-Goes-clause-over c =
+    on_over c.come_to_rest.result
+    (λ ends setup served.
+    let passed =
+    block_goes setup c.args.session.now c.take_block.new.session c.args.out.now c.take_block.new.out (frame_of c.args.view) c.in_ok-code.field-0 c.in-Goes.due c.in-Goes.goaway c.in-Goes.dropped c.in-Goes.is (c.in_ok-code.ensures.taken setup served.terms (outlet_so setup c.args.service c.is_streaming-at_once.result served c.is_streaming-at_once.ensures)) in
+    calm_comes setup c.args.session.now c.serve.new.session balanced (back_of c.in-Goes.dropped) c.args.out.now c.serve.new.out c.come_to_rest.new.out (Came (record { frame = frame_of c.args.view; note = passed.note })) (OfFrame (frame_of c.args.view)) refl
+    (block_brings setup c.args.session.now c.take_block.new.session c.say_goaway.new.session c.serve.new.session c.args.out.now c.take_block.new.out c.say_goaway.new.out c.serve.new.out (frame_of c.args.view) c.in-Goes.due c.in-Goes.goaway c.in-Goes.dropped passed
+    (λ due back. c.in_ok-say_goaway-in-Goes.ensures.performs setup due back) (λ n back. c.in_ok-serve-in-Goes.ensures.performs setup n back served.passing))
+    (ends setup)) c.come_to_rest.ensures.over

@@ -7,6 +7,7 @@ pub mod Sends
 pub mod Coming
 pub mod Hears
 pub mod FailedRows
+pub mod Following
 pub mod Fails
 pub mod Brings
 pub mod Pays

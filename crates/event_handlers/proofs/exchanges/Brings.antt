@@ -213,8 +213,8 @@ module _ (setup : Setup) (kept : View) (rest : IsAtRest kept) (run : List Move) 
     octets_fail why =
         let it = failing_octets why in
         record {
-          opened = λ streams answer. fails.failure_open setup kept rest run s leads k c found working (Up k octets) refl tt (λ y. refl) (octets_come k octets short) it.0 it.2 it.1 refl (is_part why streams) answer outputs;
-          closed = λ unreset. fails.failure_closed setup kept rest run s leads k c found working (Up k octets) refl tt (λ y. refl) (octets_come k octets short) it.0 it.2 it.1 refl unreset outputs;
+          opened = λ streams answer. fails.failure_open setup kept rest run s leads k c found working (Up k octets) refl tt (λ y. refl) (octets_come k octets short) it.0 it.2 it.1 refl answer (is_part why streams) outputs;
+          closed = λ unreset. fails.failure_closed setup kept rest run s leads k c found working (Up k octets) refl tt (λ y. refl) (octets_come k octets short) it.0 it.2 it.1 refl c.answer unreset outputs;
         }
 
   -- ---- the end of the connection
@@ -241,8 +241,8 @@ module _ (setup : Setup) (kept : View) (rest : IsAtRest kept) (run : List Move) 
 
     pub end_fails : fails.FailsBy setup kept run s k c.live.stream outputs (Happened (UpEnd k))
     end_fails = record {
-      opened = λ streams answer. fails.failure_open setup kept rest run s leads k c found working (UpEnd k) refl tt (λ y. refl) (λ gates rooms up. up) Partly (λ no. cc) end_judged refl refl answer outputs;
-      closed = λ unreset. fails.failure_closed setup kept rest run s leads k c found working (UpEnd k) refl tt (λ y. refl) (λ gates rooms up. up) Partly (λ no. cc) end_judged refl unreset outputs;
+      opened = λ streams answer. fails.failure_open setup kept rest run s leads k c found working (UpEnd k) refl tt (λ y. refl) (λ gates rooms up. up) Partly (λ no. cc) end_judged refl answer refl outputs;
+      closed = λ unreset. fails.failure_closed setup kept rest run s leads k c found working (UpEnd k) refl tt (λ y. refl) (λ gates rooms up. up) Partly (λ no. cc) end_judged refl c.answer unreset outputs;
     }
 
   -- its failure

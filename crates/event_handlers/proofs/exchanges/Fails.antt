@@ -1,6 +1,6 @@
 -- An upstream's answer fails: the gateway replies to its stream itself, and the connection is closed, or is open still, or is gone with it. This
 -- performs.
-use Rattle.std.proofs.Common.{◌≡◌, ℕ, true, false, not, ◌&&◌, ◌==◌, List, [], ◌∷◌, map, Option, Some, None, refl, sym, ◌∙◌, ap, subst, inl, inr, if◌then◌else◌}
+use Rattle.std.proofs.Common.{◌≡◌, ℕ, Bool, true, false, not, ◌&&◌, ◌==◌, List, [], ◌∷◌, map, Option, Some, None, refl, sym, ◌∙◌, ap, subst, inl, inr, if◌then◌else◌}
 use Rattle.std.specs.Prelude.{option_map, is_none}
 use Rattle.std.proofs.lemmas.Bool.{ne_eqb, eq-eqb, and_parts}
 use Rattle.std.proofs.lemmas.Bool.Decides.{eqb_tells}
@@ -11,14 +11,14 @@ use Rattle.model.specs.Logs.Output.{Does as Puts}
 use Rattle.model.specs.Setup.{Setup}
 use Rattle.model.specs.Setup.Passing.{Whole}
 use Rattle.model.specs.Tapes.{Entry, put}
-use Rattle.model.specs.Tapes.Entry.{Happened, Did}
+use Rattle.model.specs.Tapes.Entry.{Happened}
 use Rattle.model.specs.ErrorClause.{rst_stream}
 use Rattle.model.specs.Causes.Cause.{BadAnswer}
-use Rattle.model.specs.Openings.{Opened, exchanges, given}
+use Rattle.model.specs.Openings.{Opened, given}
 use Rattle.model.specs.Known.{Known}
 use Rattle.model.specs.Lifetimes.{is_opened, is_over, is_active}
 use Rattle.model.specs.Causes.{Cause}
-use Rattle.model.specs.Courses.{course, items, upstream_of}
+use Rattle.model.specs.Courses.{course as course_of, upstream_of}
 use Rattle.model.proofs.OpenedLaws.{none_zero}
 use Rattle.theory_errors.specs.Judging.{is_active_in}
 use Rattle.theory_errors.specs.Rule.{AreKnown}
@@ -30,23 +30,23 @@ use Rattle.theory_receive_windows.specs.Policy.{Gates, may_come}
 use Rattle.theory_receive_windows.specs.State as theory_receive_windows
 use Rattle.theory_requests.specs.Told.{Told}
 use Rattle.theory_requests.specs.State as theory_requests
-use Rattle.theory_requests.specs.Lines.{Heard, Line, k_of, line_of, find, without, is_idle, lines_heard, with_answer, answer_by, idle_beside}
-use Rattle.theory_requests.specs.Lines.Answer.{Idle}
+use Rattle.theory_requests.specs.Lines as lines
+use Rattle.theory_requests.specs.Lines.{Heard, Line, k_of, find, without, is_idle, lines_heard, answer_by, idle_beside}
 use Rattle.theory_requests.specs.Lines.Heard.{Partly, Keepable, Finished}
 use Rattle.theory_requests.specs.State.{Held, id_of, drop_from}
 use Rattle.theory_requests.specs.State.Due.{Nothing}
-use Rattle.theory_requests.specs.Rule.{is_done, is_done_by}
+use Rattle.theory_requests.specs.Rule.{is_done_by}
 use Rattle.theory_requests.proofs.Lists.{found_key, find_gone, find_map}
 use Rattle.streams.specs.Asked as asked
 use Rattle.connection_state.specs.Inbound.{book_of}
 use Rattle.connection_state.specs.Sending.{behind_failure, reset_if_out}
-use Rattle.connection_state.proofs.SendingEvents.{fails_lead, closes_lead, happened_ledger, did_ledger}
+use Rattle.connection_state.proofs.SendingEvents.{fails_lead, happened_ledger}
 use Rattle.upstream_connections.specs.Kept as upstreams
 use Rattle.upstream_response.specs.Waiting.{Answer}
 use Rattle.upstream_response.specs.HeldInside.{octets_of}
-use Rattle.upstream_connections.specs.Connections.{Connection, number_of, lives, answer_at, heard_at}
+use Rattle.upstream_connections.specs.Connections.{Connection, number_of, lives, answer_at, heard_at, marked_at}
 use Rattle.theory.specs.Moves.{Decision, Move, conduct_of, told_in, failed as failed_request}
-use Rattle.theory.specs.Moves.Decision.{Fails, Acts}
+use Rattle.theory.specs.Moves.Decision.{Fails}
 use Rattle.theory.specs.Moves.Move.{Does}
 use Rattle.theory.specs.State.{State, conducts, tape_of}
 use Rattle.theory.specs.Rule.{rooms_in}
@@ -54,36 +54,46 @@ use Rattle.theory.specs.Answered.{IsAnswered}
 use Rattle.theory.specs.Coming.{MayBreakOff}
 use Rattle.theory.specs.Steps.{told_by, told_behind, next, MayGoOn, Stands}
 use Rattle.theory.proofs.Coming.{may_fail}
-use Rattle.theory.proofs.Going.{may_act}
 use Rattle.theory.proofs.Stepping.{one_more}
 use Rattle.refinement.specs.View.{View, Pending, balanced, newest_in, GoBack, IsCredited, AreMarked, Leads, AreSo, AreHeard}
 use Rattle.refinement.specs.Hearing.{IsHeard}
-use Rattle.refinement.specs.Rest.{IsAtRest}
+use Rattle.refinement.specs.Rest.{IsAtRest, told_view}
 use Rattle.refinement.specs.Bringing.{Course}
-use Rattle.refinement.proofs.Hearing.{items_behind_event}
 use Rattle.refinement.proofs.Idles.{finished_closed}
 use Rattle.refinement.proofs.Kept.{held_behind, served_dropped}
-use Rattle.refinement.proofs.Lives.{lives_closed, lives_same, lives_heard}
+use Rattle.refinement.proofs.Lives.{IsDone, lives_closed, lives_same, lives_heard}
 use Rattle.refinement.proofs.Marking.{rooms_next, marked_event}
 use Rattle.refinement.proofs.Sound as sound
-use Rattle.refinement.proofs.Staying.{so_stays, found_live, found_before, found_from, open_begun, calm_before, heard_by_entry, rows_kept, all_held_served}
+use Rattle.refinement.proofs.Staying.{found_before, found_from, rows_kept, all_held_served}
 use Rattle.refinement.proofs.Where.{led_to, right_here}
 use Rattle.event_handlers.specs.exchanges.Giving.{replied_to, closed_at}
 use Rattle.event_handlers.specs.exchanges.Taking.{answered_with}
 use Rattle.event_handlers.proofs.exchanges.Coming as coming
 use Rattle.event_handlers.proofs.exchanges.FailedRows as failing
-
--- a connection that goes, whatever was heard of its response
-without_heard : (most k : ℕ) (heard : Heard) (cs : List Connection) → without k_of k (lines_heard most k heard (lives cs)) ≡ without k_of k (lives cs)
-without_heard most k heard cs =
-    ap (λ ls. without k_of k ls) (sym (lives_heard most k heard cs)) ∙ sym (lives_closed k (heard_at most k heard cs))
-    ∙ ap lives (finished_closed k (answer_by most (idle_beside k (lives cs)) heard) cs) ∙ lives_closed k cs
+use Rattle.event_handlers.proofs.exchanges.Following.{course_own}
+use Rattle.event_handlers.proofs.paying.Closes.{closes}
 
 -- behind one that failed a connection whose stream isn't served is done with
 failed_done : (most others : ℕ) (heard : Heard) → (heard ≡ Keepable → ⊥) → is_done_by (answer_by most others heard) false ≡ true
 failed_done most others Partly never = refl
 failed_done most others Keepable never = absurd (never refl)
 failed_done most others Finished never = refl
+
+-- and isn't idle
+failed_working : (most others : ℕ) (heard : Heard) → (heard ≡ Keepable → ⊥) → is_idle (answer_by most others heard) ≡ false
+failed_working most others Partly never = refl
+failed_working most others Keepable never = absurd (never refl)
+failed_working most others Finished never = refl
+
+-- one that goes, whatever its answer was
+pub without_answer : (k : ℕ) (answer : Answer) (cs : List Connection) → without number_of k (map (answer_at k answer) cs) ≡ without number_of k cs
+without_answer k answer [] = refl
+without_answer k answer (c ∷ cs) = by (c.live.k == k) refl (without_answer k answer cs)
+  where
+    by : (b : Bool) → (c.live.k == k) ≡ b → without number_of k (map (answer_at k answer) cs) ≡ without number_of k cs
+        → (if b then without number_of k (map (answer_at k answer) cs) else answer_at k answer c ∷ without number_of k (map (answer_at k answer) cs)) ≡ (if b then without number_of k cs else c ∷ without number_of k cs)
+    by true is more = more
+    by false is more = ap (λ b. let x : Connection = record c { answer = if b then answer else c.answer } in x ∷ without number_of k (map (answer_at k answer) cs)) is ∙ ap (λ (xs : List Connection). c ∷ xs) more
 
 -- the reset that is owed, where a final head is out
 abbrev pub resets_for : View → ℕ → List Frame
@@ -158,7 +168,7 @@ module _ (setup : Setup) (kept : View) (rest : IsAtRest kept) (run : List Move) 
   so_one known same knows = (leads.so known same knows.0, so known same knows.0)
 
   -- the gateway replies to the stream itself then, whatever is known
-  caused_one : (known : Known) → known.setup ≡ setup → AreKnown known (conducts one_run) → (course known stream (Happened event ∷ tape_of run)).cause ≡ Some BadAnswer
+  caused_one : (known : Known) → known.setup ≡ setup → AreKnown known (conducts one_run) → (course_of known stream (Happened event ∷ tape_of run)).cause ≡ Some BadAnswer
   caused_one known same knows =
       let right = sound.right known one_run one (led_to known setup one_run one same knows stands_one so_one) in
       let active : asked.is_active one.ledger.book.rows stream ≡ true = ap (λ (d : Ledger). asked.is_active d.book.rows stream) ledger_one ∙ failing.active_then book.rows stream active_here stream ∙ active_here in
@@ -210,6 +220,9 @@ module _ (setup : Setup) (kept : View) (rest : IsAtRest kept) (run : List Move) 
   active_kept : asked.is_active kept.inbound.rows stream ≡ true
   active_kept = ap (λ (b : Book). asked.is_active b.rows stream) (sym leads.keeps.book) ∙ active_here
 
+  cause_kept : (rows.find kept.inbound.rows stream).outline.cause ≡ None
+  cause_kept = ap (λ (b : Book). (rows.find b.rows stream).outline.cause) (sym leads.keeps.book) ∙ no_cause
+
   back_before : (id : ℕ) → GoBack new.inbound id → GoBack kept.inbound id
   back_before id back = record {
     active = sym (failing.active_then kept.inbound.rows stream active_kept id) ∙ back.active;
@@ -226,212 +239,143 @@ module _ (setup : Setup) (kept : View) (rest : IsAtRest kept) (run : List Move) 
   counted_one : (j : ℕ) (x : Connection) → find number_of j kept.upstreams.live ≡ Some x → (one.windows.out j ≡ x.out) × (one.windows.took j ≡ x.took)
   counted_one j x is = let was = leads.keeps.counted j x is in (ap (λ (y : theory_receive_windows.Kept). y.out j) windows_one ∙ was.0, ap (λ (y : theory_receive_windows.Kept). y.took j) windows_one ∙ was.1)
 
-  -- ---- answers of the others
-
-  apart_from : (j : ℕ) (x : Connection) → find number_of j (without number_of k kept.upstreams.live) ≡ Some x → j ≡ k → ⊥
-  apart_from j x is same = let clash : ◌≡◌ {A = Option Connection} None (Some x) = sym (find_gone number_of k kept.upstreams.live) ∙ ap (λ n. find number_of n (without number_of k kept.upstreams.live)) (sym same) ∙ is in absurd (let no : ◌≡◌ {A = Option Connection} None (Some x) = clash in cc)
-
-  heard_one : AreHeard setup one_run (without number_of k kept.upstreams.live)
-  heard_one = record {
-    so = λ known same knows j x is on calm.
-        coming.others_heard setup kept rest run s leads k c found working event of known same knows.0 j x (apart_from j x is) (found_before k j kept.upstreams.live x is) on calm;
-    none_idle = λ j x is. leads.heard.none_idle j x (found_before k j kept.upstreams.live x is);
+  -- what was put out is so far what the new state says, whatever else changed
+  course : (ups : upstreams.State) → one.requests ≡ upstreams.with_due ups Nothing → AreHeard setup one_run ups.live → ((j : ℕ) (x : Connection) → find number_of j ups.live ≡ Some x → (one.windows.out j ≡ x.out) × (one.windows.took j ≡ x.took))
+      → (outputs : List Output) → Course setup run s outputs (Happened event) (record new { upstreams = ups }) pending outputs
+  course ups requests heard counted outputs = record {
+    segment = record {
+      moves = Does decision ∷ [];
+      state = one;
+      by_rule = (s, refl, may_one, refl);
+      leads = record {
+        stands = stands_one;
+        so = so_one;
+        heard = heard;
+        keeps = record {
+          book = book_one ∙ ap (λ (os : List Opened). book_of (record { given = os; untaken = kept.untaken }) new.inbound) (sym (ap (λ (b : Book). b.given) book_one));
+          owed = queue_one;
+          offers = offers_one;
+          requests = requests;
+          decoding = leads.keeps.decoding;
+          encoding = leads.keeps.encoding;
+          read = leads.keeps.read;
+          credited = credited_one;
+          counted = counted;
+        };
+        marked = marked_one;
+        in_effect = tt;
+      };
+      puts = refl;
+    };
+    own = [];
+    begins = refl;
+    are_own = tt;
   }
 
-  module _ (as_heard : failed_request event w ≡ theory_requests.Move.Hears event w) where
-    requests_one : one.requests ≡ record { held = without id_of stream kept.upstreams.held; live = lines_heard setup.most_idle k w (lives kept.upstreams.live); due = Nothing; count = kept.upstreams.count }
+  module _ (as_heard : failed_request event w ≡ theory_requests.Move.Hears event w) (answer : Answer) where
+    -- how far its response is then, and what its answer is
+    abbrev progress : lines.Answer
+    progress = answer_by setup.most_idle (idle_beside k (lives kept.upstreams.live)) w
+
+    abbrev behind : List Connection
+    behind = map (answer_at k answer) (heard_at setup.most_idle k w kept.upstreams.live)
+
+    abbrev heard_view : View
+    heard_view = replied_to stream (record kept { upstreams = record kept.upstreams { live = behind } })
+
+    requests_one : one.requests ≡ upstreams.with_due heard_view.upstreams Nothing
     requests_one =
         ap (λ (m : theory_requests.Move). theory_requests.after setup (told_in (told_behind setup s decision)) s.requests m) as_heard
         ∙ ap (λ (d : Ledger). theory_requests.after setup (told_in (summary_in d.book)) s.requests (theory_requests.Move.Hears event w)) ledger_one
         ∙ ap (λ (hs : List Held). record { held = hs; live = lines_heard setup.most_idle (upstream_of event) w s.requests.live; due = s.requests.due; count = s.requests.count }) held_one
         ∙ ap (λ n. record { held = without id_of stream s.requests.held; live = lines_heard setup.most_idle n w s.requests.live; due = s.requests.due; count = s.requests.count }) of
         ∙ ap (λ (r : theory_requests.State). record { held = without id_of stream r.held; live = lines_heard setup.most_idle k w r.live; due = r.due; count = r.count }) leads.keeps.requests
+        ∙ ap (λ (ls : List Line). record { held = without id_of stream kept.upstreams.held; live = ls; due = Nothing; count = kept.upstreams.count }) (sym (lives_same (answer_at k answer) (λ y. refl) (heard_at setup.most_idle k w kept.upstreams.live) ∙ lives_heard setup.most_idle k w kept.upstreams.live))
 
-    -- ---- the connection is open still
+    -- what each was before
+    from_two : (j : ℕ) (now : Connection) → find number_of j behind ≡ Some now → (y : Connection) × (find number_of j kept.upstreams.live ≡ Some y) × (answer_at k answer (marked_at k progress y) ≡ now)
+    from_two j now is =
+        let last = found_from (answer_at k answer) (λ y. refl) (heard_at setup.most_idle k w kept.upstreams.live) j now is in
+        let first = found_from (marked_at k progress) (λ y. refl) kept.upstreams.live j last.before last.there in
+        (first.before, first.there, ap (answer_at k answer) first.is ∙ last.is)
 
-    module _ (part : w ≡ Partly) (answer : Answer) where
-      -- what is kept then: of its answer nothing more is asked
-      abbrev pub open_view : View
-      open_view = replied_to stream (answered_with k answer kept.offers kept)
+    own_one : (j : ℕ) (y : Connection) → find number_of j kept.upstreams.live ≡ Some y → j ≡ k → y ≡ c
+    own_one j y there here = let own : ◌≡◌ {A = Option Connection} (Some y) (Some c) = sym there ∙ ap (λ n. find number_of n kept.upstreams.live) here ∙ found in let this : y ≡ c = cc in this
 
-      lives_open : lines_heard setup.most_idle k w (lives kept.upstreams.live) ≡ lives open_view.upstreams.live
-      lives_open =
-          ap (λ (h : Heard). lines_heard setup.most_idle k h (lives kept.upstreams.live)) part
-          ∙ sym (lives_heard setup.most_idle k Partly kept.upstreams.live)
-          ∙ ap lives (coming.partly_same setup kept rest run s leads k c found working)
-          ∙ sym (lives_same (answer_at k answer) (λ y. refl) kept.upstreams.live)
+    heard_one : AreHeard setup one_run behind
+    heard_one = record {
+      so = λ known same knows j now is on calm.
+          let from = from_two j now is in
+          let y = from.0 in
+          let number : y.live.k ≡ j = found_key number_of j kept.upstreams.live y from.1 in
+          let its : y.live.stream ≡ now.live.stream = ap (λ (z : Connection). z.live.stream) from.2 in
+          elim (eqb_tells j k) [
+            | inl here ↦ absurd (
+                let no : ◌≡◌ {A = Option Cause} (Some BadAnswer) None =
+                sym (caused_one known same knows) ∙ ap (λ n. (course_of known n (Happened event ∷ tape_of run)).cause) (ap (λ (z : Connection). z.live.stream) (sym (own_one j y from.1 here.1)) ∙ its) ∙ calm in
+                let clash : ◌≡◌ {A = Option Cause} (Some BadAnswer) None = no in cc
+                )
+            | inr off ↦ (
+                let other : (y.live.k == k) ≡ false = ap (λ n. n == k) number ∙ off.0 in
+                subst (λ (a : Answer). IsHeard known (Happened event ∷ tape_of run) j a) (sym (ap (λ b. if b then answer else y.answer) other) ∙ ap (λ (z : Connection). z.answer) from.2)
+                (coming.others_heard setup kept rest run s leads k c found working event of known same knows.0 j y off.1 from.1 (sym (ap (λ b. if b then progress else y.live.answer) other) ∙ ap (λ (z : Connection). z.live.answer) from.2 ∙ on)
+                (ap (λ n. (course_of known n (Happened event ∷ tape_of run)).cause) its ∙ calm))
+                )
+          ];
+      none_idle = λ j now is idle.
+          let from = from_two j now is in
+          let y = from.0 in
+          let number : y.live.k ≡ j = found_key number_of j kept.upstreams.live y from.1 in
+          elim (eqb_tells j k) [
+            | inl here ↦ absurd (
+                let its : (y.live.k == k) ≡ true = ap (λ n. n == k) number ∙ here.0 in
+                let no : true ≡ false = sym (ap is_idle (sym (ap (λ b. if b then progress else y.live.answer) its) ∙ ap (λ (z : Connection). z.live.answer) from.2 ∙ idle)) ∙ failed_working setup.most_idle (idle_beside k (lives kept.upstreams.live)) w never in
+                let clash : true ≡ false = no in cc
+                )
+            | inr off ↦ (
+                let other : (y.live.k == k) ≡ false = ap (λ n. n == k) number ∙ off.0 in
+                ap octets_of (sym (sym (ap (λ b. if b then answer else y.answer) other) ∙ ap (λ (z : Connection). z.answer) from.2))
+                ∙ leads.heard.none_idle j y from.1 (sym (ap (λ b. if b then progress else y.live.answer) other) ∙ ap (λ (z : Connection). z.live.answer) from.2 ∙ idle)
+                )
+          ];
+    }
 
-      heard_open : AreHeard setup one_run open_view.upstreams.live
-      heard_open = record {
-        so = λ known same knows j now is on calm.
-            let from = found_from (answer_at k answer) (λ y. refl) kept.upstreams.live j now is in
-            let y = from.before in
-            let number : y.live.k ≡ j = found_key number_of j kept.upstreams.live y from.there in
-            let live_is : y.live ≡ now.live = ap (λ (z : Connection). z.live) from.is in
-            elim (eqb_tells j k) [
-              | inl here ↦ absurd (
-                  let no : ◌≡◌ {A = Option Cause} (Some BadAnswer) None =
-                  sym (caused_one known same knows) ∙ ap (λ n. (course known n (Happened event ∷ tape_of run)).cause) (ap (λ (z : Connection). z.live.stream) (sym (own_one j y from.there here.1)) ∙ ap (λ (l : Line). l.stream) live_is) ∙ calm in
-                  let clash : ◌≡◌ {A = Option Cause} (Some BadAnswer) None = no in cc
-                  )
-              | inr off ↦ (
-                  let other : (y.live.k == k) ≡ false = ap (λ n. n == k) number ∙ off.0 in
-                  subst (λ (a : Answer). IsHeard known (Happened event ∷ tape_of run) j a) (sym (ap (λ b. if b then answer else y.answer) other) ∙ ap (λ (z : Connection). z.answer) from.is)
-                  (coming.others_heard setup kept rest run s leads k c found working event of known same knows.0 j y off.1 from.there (ap (λ (l : Line). l.answer) live_is ∙ on)
-                  (ap (λ (l : Line). (course known l.stream (Happened event ∷ tape_of run)).cause) live_is ∙ calm))
-                  )
-            ];
-        none_idle = λ j now is idle.
-            let from = found_from (answer_at k answer) (λ y. refl) kept.upstreams.live j now is in
-            let y = from.before in
-            let number : y.live.k ≡ j = found_key number_of j kept.upstreams.live y from.there in
-            let was : y.live.answer ≡ Idle = ap (λ (z : Connection). z.live.answer) from.is ∙ idle in
-            elim (eqb_tells j k) [
-              | inl here ↦ absurd (
-                  let no : true ≡ false = sym (ap is_idle was) ∙ ap (λ (z : Connection). is_idle z.live.answer) (own_one j y from.there here.1) ∙ working in
-                  let clash : true ≡ false = no in cc
-                  )
-              | inr off ↦ (
-                  let other : (y.live.k == k) ≡ false = ap (λ n. n == k) number ∙ off.0 in
-                  ap octets_of (sym (sym (ap (λ b. if b then answer else y.answer) other) ∙ ap (λ (z : Connection). z.answer) from.is)) ∙ leads.heard.none_idle j y from.there was
-                  )
-            ];
-      }
-        where
-          own_one : (j : ℕ) (y : Connection) → find number_of j kept.upstreams.live ≡ Some y → j ≡ k → y ≡ c
-          own_one j y there here = let own : ◌≡◌ {A = Option Connection} (Some y) (Some c) = sym there ∙ ap (λ n. find number_of n kept.upstreams.live) here ∙ found in let this : y ≡ c = cc in this
+    -- The answer fails, and its connection is open still, of whose answer nothing more is asked.
+    failure_heard : (outputs : List Output) → Course setup run s outputs (Happened event) heard_view pending outputs
+    failure_heard = course heard_view.upstreams requests_one heard_one (λ j now is.
+        let from = from_two j now is in
+        let was = counted_one j from.0 from.1 in
+        (was.0 ∙ ap (λ (z : Connection). z.out) from.2, was.1 ∙ ap (λ (z : Connection). z.took) from.2))
 
-      -- The answer fails, and its connection is open still.
-      pub failure_open : (outputs : List Output) → Course setup run s outputs (Happened event) open_view pending outputs
-      failure_open outputs = record {
-        segment = record {
-          moves = Does decision ∷ [];
-          state = one;
-          by_rule = (s, refl, may_one, refl);
-          leads = record {
-            stands = stands_one;
-            so = so_one;
-            heard = heard_open;
-            keeps = record {
-              book = book_one ∙ ap (λ (os : List Opened). book_of (record { given = os; untaken = kept.untaken }) new.inbound) (sym (ap (λ (b : Book). b.given) book_one));
-              owed = queue_one;
-              offers = offers_one;
-              requests = requests_one ∙ ap (λ (ls : List Line). record { held = without id_of stream kept.upstreams.held; live = ls; due = Nothing; count = kept.upstreams.count }) lives_open;
-              decoding = leads.keeps.decoding;
-              encoding = leads.keeps.encoding;
-              read = leads.keeps.read;
-              credited = credited_one;
-              counted = λ j now is.
-                  let from = found_from (answer_at k answer) (λ y. refl) kept.upstreams.live j now is in
-                  let was = counted_one j from.before from.there in (was.0 ∙ ap (λ (z : Connection). z.out) from.is, was.1 ∙ ap (λ (z : Connection). z.took) from.is);
-            };
-            marked = marked_one;
-            in_effect = tt;
-          };
-          puts = refl;
-        };
-        own = [];
-        begins = refl;
-        are_own = tt;
-      }
+    -- its response isn't whole
+    pub failure_open : w ≡ Partly → (outputs : List Output) → Course setup run s outputs (Happened event) (replied_to stream (answered_with k answer kept.offers kept)) pending outputs
+    failure_open part outputs =
+        subst (λ (cs : List Connection). Course setup run s outputs (Happened event) (replied_to stream (record kept { upstreams = record kept.upstreams { live = map (answer_at k answer) cs } })) pending outputs)
+        (ap (λ (h : Heard). heard_at setup.most_idle k h kept.upstreams.live) part ∙ coming.partly_same setup kept rest run s leads k c found working) (failure_heard outputs)
 
     -- ---- the connection is closed then
 
-    abbrev second : Decision
-    second = Acts (Close k)
-
-    abbrev two : State
-    two = next setup one (Does second)
-
-    ledger_two : ledger_after setup one.ledger (conduct_of second) ≡ record { book = one.ledger.book; queue = one.ledger.queue }
-    ledger_two = did_ledger setup false one.ledger (Close k) one.ledger.book [] (closes_lead setup one.ledger.book k (rows_kept setup one_run one stands_one))
-
-    -- its line then
-    abbrev line_then : Line
-    line_then = with_answer k (answer_by setup.most_idle (idle_beside k (lives kept.upstreams.live)) w) c.live
-
-    line_one : line_of k one.requests.live ≡ Some line_then
-    line_one =
-        ap (λ (r : theory_requests.State). line_of k r.live) requests_one
-        ∙ find_map k_of (with_answer k (answer_by setup.most_idle (idle_beside k (lives kept.upstreams.live)) w)) (λ l. refl) k (lives kept.upstreams.live)
-        ∙ ap (option_map (with_answer k (answer_by setup.most_idle (idle_beside k (lives kept.upstreams.live)) w))) (found_live k kept.upstreams.live c found)
-
-    done_one : is_done (told_in (told_by one)) line_then ≡ true
-    done_one =
-        ap (λ (d : Ledger). is_done_by line_then.answer ((told_in (summary_in d.book)).served stream)) ledger_one
-        ∙ ap (λ b. is_done_by line_then.answer b) not_served
-        ∙ ap (λ b. is_done_by (if b then answer_by setup.most_idle (idle_beside k (lives kept.upstreams.live)) w else c.live.answer) false) (eq-eqb c.live.k k (found_key number_of k kept.upstreams.live c found))
-        ∙ failed_done setup.most_idle (idle_beside k (lives kept.upstreams.live)) w never
-
-    may_two : resets_for kept stream ≡ [] → MayGoOn setup one (Does second)
-    may_two unreset = (
-      ap (λ (d : Ledger). d.book.ends) ledger_two ∙ stands_one.goes_on,
-      may_act setup (told_behind setup one second) one (Close k) (ap (λ (b : Book). b.closed) book_one)
-          (record { nothing = queue_one ∙ unreset; may = record { nothing = ap (λ (r : theory_requests.State). r.due) requests_one; line = line_then; found = line_one; why = inl done_one } }),
-    )
-
-    abbrev closed_view : View
-    closed_view = closed_at k new
-
-    requests_two : two.requests ≡ upstreams.with_due closed_view.upstreams Nothing
-    requests_two =
-        ap (λ (r : theory_requests.State). theory_requests.after setup (told_in (told_behind setup one second)) r (theory_requests.Move.Acts (Close k))) requests_one
-        ∙ ap (λ (ls : List Line). record { held = map (drop_from k) (without id_of stream kept.upstreams.held); live = ls; due = Nothing; count = kept.upstreams.count }) (without_heard setup.most_idle k w kept.upstreams.live ∙ sym (lives_closed k kept.upstreams.live))
-
-    book_two : two.ledger.book ≡ book_of (record { given = two.ledger.book.given; untaken = kept.untaken }) new.inbound
-    book_two =
-        ap (λ (d : Ledger). d.book) ledger_two ∙ book_one
-        ∙ ap (λ (os : List Opened). book_of (record { given = os; untaken = kept.untaken }) new.inbound) (sym (ap (λ (d : Ledger). d.book.given) ledger_two ∙ ap (λ (b : Book). b.given) book_one))
-
-    heard_two : AreHeard setup (Does second ∷ one_run) (without number_of k kept.upstreams.live)
-    heard_two = record {
-      so = λ known same knows j x is on calm.
-          let was = heard_one.so known same knows.0 j x is on (calm_before known x.live.stream (Did (Close k)) (Happened event ∷ tape_of run) calm) in
-          heard_by_entry known (Happened event ∷ tape_of run) (Did (Close k)) j x.answer refl refl (begun_one known same knows.0.0 j x (found_before k j kept.upstreams.live x is)) was;
-      none_idle = heard_one.none_idle;
+    done : IsDone (told_view heard_view) behind k
+    done = record {
+      connection = answer_at k answer (marked_at k progress c);
+      found =
+          find_map number_of (answer_at k answer) (λ y. refl) k (heard_at setup.most_idle k w kept.upstreams.live)
+          ∙ ap (option_map (answer_at k answer)) (find_map number_of (marked_at k progress) (λ y. refl) k kept.upstreams.live ∙ ap (option_map (marked_at k progress)) found);
+      done =
+          ap (λ b. is_done_by (if b then progress else c.live.answer) ((told_view heard_view).served stream)) (eq-eqb c.live.k k (found_key number_of k kept.upstreams.live c found))
+          ∙ ap (is_done_by progress) (failing.not_served kept.inbound.rows stream active_kept cause_kept)
+          ∙ failed_done setup.most_idle (idle_beside k (lives kept.upstreams.live)) w never;
     }
-      where
-        begun_one : (known : Known) → known.setup ≡ setup → AreKnown known (conducts run) → (j : ℕ) (x : Connection) → find number_of j kept.upstreams.live ≡ Some x → items known (given j (exchanges (tape_of run))) (Happened event ∷ tape_of run) ≡ [] → ⊥
-        begun_one known same knows j x there none =
-            open_begun setup run s leads.stands leads.so kept.upstreams.live (coming.lives_are setup kept rest run s leads k c found working) known same knows j x there
-            (sym (items_behind_event known (tape_of run) event (given j (exchanges (tape_of run)))) ∙ none)
-
-    so_two : AreSo setup (Does second ∷ one_run)
-    so_two = so_stays setup one_run second tt so_one
 
     -- The answer fails with octets or with the end of its connection, which is closed then.
-    pub failure_closed : resets_for kept stream ≡ [] → (outputs : List Output) → Course setup run s outputs (Happened event) closed_view pending (put outputs (Puts (Close k)))
-    failure_closed unreset outputs = record {
-      segment = record {
-        moves = Does second ∷ Does decision ∷ [];
-        state = two;
-        by_rule = (one, (s, refl, may_one, refl), may_two unreset, refl);
-        leads = record {
-          stands = one_more setup one_run one (Does second) stands_one (may_two unreset);
-          so = so_two;
-          heard = heard_two;
-          keeps = record {
-            book = book_two;
-            owed = ap (λ (d : Ledger). d.queue) ledger_two ∙ queue_one;
-            offers = offers_one;
-            requests = requests_two;
-            decoding = leads.keeps.decoding;
-            encoding = leads.keeps.encoding;
-            read = leads.keeps.read;
-            credited = credited_one;
-            counted = λ j x is. counted_one j x (found_before k j kept.upstreams.live x is);
-          };
-          marked =
-              subst (λ (os : List Opened). AreMarked setup.passing (λ j. given j os) kept.marks (rooms_in (told_by two) two)) (sym (ap (λ (d : Ledger). d.book.given) ledger_two))
-              (subst (AreMarked setup.passing (newest_in one) kept.marks) (sym (rooms_next setup one_run one stands_one so_one second (may_two unreset) so_two)) marked_one);
-          in_effect = tt;
-        };
-        puts = refl;
-      };
-      own = Did (Close k) ∷ [];
-      begins = refl;
-      are_own = tt;
-    }
+    pub failure_closed : resets_for kept stream ≡ [] → (outputs : List Output) → Course setup run s outputs (Happened event) (closed_at k new) pending (put outputs (Puts (Close k)))
+    failure_closed unreset outputs =
+        subst (λ (fs : List Frame). Course setup run s outputs (Happened event) (closed_at k new) (record balanced { owed = fs }) (put outputs (Puts (Close k)))) (sym unreset)
+        (subst (λ (cs : List Connection). Course setup run s outputs (Happened event) (record (closed_at k new) { upstreams = record { held = map (drop_from k) (without id_of stream kept.upstreams.held); live = cs; count = kept.upstreams.count } }) balanced (put outputs (Puts (Close k))))
+        (without_answer k answer (heard_at setup.most_idle k w kept.upstreams.live) ∙ finished_closed k progress kept.upstreams.live)
+        (course_own setup run s outputs outputs (put outputs (Puts (Close k))) heard_view (closed_at k heard_view) balanced balanced (Happened event)
+        (subst (λ (fs : List Frame). Course setup run s outputs (Happened event) heard_view (record balanced { owed = fs }) outputs) unreset (failure_heard outputs))
+        (closes setup heard_view 0 k (λ top below. done) outputs)))
 
   -- ---- the connection is gone with it
 
@@ -453,34 +397,16 @@ module _ (setup : Setup) (kept : View) (rest : IsAtRest kept) (run : List Move) 
         ∙ ap (λ (r : theory_requests.State). record { held = without id_of stream (map (drop_from k) r.held); live = without k_of k r.live; due = r.due; count = r.count }) leads.keeps.requests
         ∙ ap (λ (ls : List Line). record { held = without id_of stream (map (drop_from k) kept.upstreams.held); live = ls; due = Nothing; count = kept.upstreams.count }) (sym (lives_closed k kept.upstreams.live))
 
+    heard_gone : AreHeard setup one_run (without number_of k kept.upstreams.live)
+    heard_gone = record {
+      so = λ known same knows j x is on calm.
+          coming.others_heard setup kept rest run s leads k c found working event of known same knows.0 j x (apart_from j x is) (found_before k j kept.upstreams.live x is) on calm;
+      none_idle = λ j x is. leads.heard.none_idle j x (found_before k j kept.upstreams.live x is);
+    }
+      where
+        apart_from : (j : ℕ) (x : Connection) → find number_of j (without number_of k kept.upstreams.live) ≡ Some x → j ≡ k → ⊥
+        apart_from j x is same = let clash : ◌≡◌ {A = Option Connection} None (Some x) = sym (find_gone number_of k kept.upstreams.live) ∙ ap (λ n. find number_of n (without number_of k kept.upstreams.live)) (sym same) ∙ is in absurd (let no : ◌≡◌ {A = Option Connection} None (Some x) = clash in cc)
+
     -- The answer fails with its connection.
     pub failure_gone : (outputs : List Output) → Course setup run s outputs (Happened event) gone_view pending outputs
-    failure_gone outputs = record {
-      segment = record {
-        moves = Does decision ∷ [];
-        state = one;
-        by_rule = (s, refl, may_one, refl);
-        leads = record {
-          stands = stands_one;
-          so = so_one;
-          heard = heard_one;
-          keeps = record {
-            book = book_one ∙ ap (λ (os : List Opened). book_of (record { given = os; untaken = kept.untaken }) new.inbound) (sym (ap (λ (b : Book). b.given) book_one));
-            owed = queue_one;
-            offers = offers_one;
-            requests = requests_gone;
-            decoding = leads.keeps.decoding;
-            encoding = leads.keeps.encoding;
-            read = leads.keeps.read;
-            credited = credited_one;
-            counted = λ j x is. counted_one j x (found_before k j kept.upstreams.live x is);
-          };
-          marked = marked_one;
-          in_effect = tt;
-        };
-        puts = refl;
-      };
-      own = [];
-      begins = refl;
-      are_own = tt;
-    }
+    failure_gone = course gone_view.upstreams requests_gone heard_gone (λ j x is. counted_one j x (found_before k j kept.upstreams.live x is))

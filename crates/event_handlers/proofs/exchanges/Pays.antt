@@ -62,7 +62,8 @@ use Rattle.event_handlers.specs.exchanges.Giving.{replied_to, reset_behind, rese
 use Rattle.event_handlers.specs.exchanges.Taking.{answered_with}
 use Rattle.event_handlers.proofs.exchanges.Coming as coming
 use Rattle.event_handlers.proofs.exchanges.FailedRows as failing
-use Rattle.event_handlers.proofs.exchanges.Fails.{resets_for, FailsBy}
+use Rattle.event_handlers.proofs.exchanges.Fails.{resets_for, FailsBy, without_answer}
+use Rattle.event_handlers.proofs.exchanges.Following.{course_own}
 use Rattle.refinement.proofs.Where.{own, own_led, placed_here, right_here}
 
 -- what goes once goes no more
@@ -73,27 +74,6 @@ without_twice id (h ∷ hs) = by (h.id == id) refl (without_twice id hs)
     by : (b : Bool) → (h.id == id) ≡ b → without id_of id (without id_of id hs) ≡ without id_of id hs → without id_of id (if b then without id_of id hs else h ∷ without id_of id hs) ≡ (if b then without id_of id hs else h ∷ without id_of id hs)
     by true is more = more
     by false is more = ap (λ b. if b then without id_of id (without id_of id hs) else h ∷ without id_of id (without id_of id hs)) is ∙ ap (λ (xs : List Held). h ∷ xs) more
-
--- something came in, and then the gateway did something of its own
-pub course_own : (setup : Setup) (run : List Move) (s : State) (o p q : List Output) (b c : View) (y z : Pending) (entry : Entry) → Course setup run s o entry b y p → PerformsOwn setup b y p c z q → Course setup run s o entry c z q
-course_own setup run s o p q b c y z entry one later =
-    let two = later (one.segment.moves ++ run) one.segment.state one.segment.leads in
-    record {
-      segment = segments_then setup run s o p q b c y z one.segment two.segment;
-      own = tape_of two.segment.moves ++ one.own;
-      begins = tape_behind two.segment.moves one.segment.moves ∙ ap (λ (u : List Entry). tape_of two.segment.moves ++ u) one.begins ∙ sym (append_assoc (tape_of two.segment.moves) one.own (entry ∷ []));
-      are_own = own_behind (tape_of two.segment.moves) one.own two.are_own one.are_own;
-    }
-
--- one that goes, whatever its answer was
-pub without_answer : (k : ℕ) (answer : Answer) (cs : List Connection) → without number_of k (map (answer_at k answer) cs) ≡ without number_of k cs
-without_answer k answer [] = refl
-without_answer k answer (c ∷ cs) = by (c.live.k == k) refl (without_answer k answer cs)
-  where
-    by : (b : Bool) → (c.live.k == k) ≡ b → without number_of k (map (answer_at k answer) cs) ≡ without number_of k cs
-        → (if b then without number_of k (map (answer_at k answer) cs) else answer_at k answer c ∷ without number_of k (map (answer_at k answer) cs)) ≡ (if b then without number_of k cs else c ∷ without number_of k cs)
-    by true is more = more
-    by false is more = ap (λ b. let x : Connection = record c { answer = if b then answer else c.answer } in x ∷ without number_of k (map (answer_at k answer) cs)) is ∙ ap (λ (xs : List Connection). c ∷ xs) more
 
 -- the frame of a reset is as long as a frame may be
 reset_fits : (stream : ℕ) → stream < 2147483648 → Fits (rst_stream stream internal_error)

@@ -31,6 +31,8 @@ use Rattle.refinement.proofs.Bringing.{brings_then}
 use Rattle.event_handlers.specs.ending.Reasons.{IsBy}
 use Rattle.event_handlers.specs.declared.ending.reason.Ending.TheVariants as ending
 use Rattle.event_handlers.specs.plain_frames.Taken as plain
+use Rattle.event_handlers.specs.plain_frames.Owed.{owed_frame, with_sent, put_sent, WasFree}
+use Rattle.event_handlers.specs.declared.plain_frames.taking.Owed.{Owed}
 use Rattle.event_handlers.specs.declared.plain_frames.taking.TakenFrame.{TakenFrame}
 use Rattle.event_handlers.specs.declared.plain_frames.taking.TakenFrame.TheVariants as plain_taken
 use Rattle.event_handlers.specs.block_frames.Following.{goaway_frames}
@@ -42,7 +44,7 @@ use Rattle.event_handlers.specs.Inputs.Input.{OfFrame}
 use Rattle.event_handlers.specs.MidStep.{IsMidStep}
 use Rattle.event_handlers.specs.Resting.{AreNumbered, IsSettled}
 use Rattle.event_handlers.proofs.Ends.{ends_come}
-use Rattle.event_handlers.proofs.MidSteps.{mid_about}
+use Rattle.event_handlers.proofs.MidSteps.{mid_about, mid_same}
 
 -- ---- streams have numbers of 31 bits behind the frame
 
@@ -64,11 +66,11 @@ goaway_owed (Some last) some = (goaway last no_error, [], refl)
 module _ (setup : Setup) where
   -- ---- what was answered
 
-  pub plain_goes : (old new : View) (o p : List Output) (frame : Frame) (answer : TakenFrame) (due : Due) (dropped : ℕ) → answer ≡ plain_taken.Goes due dropped → plain.IsPlainTaken setup old o frame answer new p → plain.IsPassed setup old o frame due dropped new p
-  plain_goes old new o p frame answer due dropped is taken = subst (λ (t : TakenFrame). plain.IsPlainTaken setup old o frame t new p) is taken
+  pub plain_goes : (old new : View) (frame : Frame) (answer : TakenFrame) (due : Due) (owed : Owed) (dropped : ℕ) → answer ≡ plain_taken.Goes due owed dropped → plain.IsPlainTaken setup old frame answer new → plain.IsPassed setup old frame due owed dropped new
+  plain_goes old new frame answer due owed dropped is taken = subst (λ (t : TakenFrame). plain.IsPlainTaken setup old frame t new) is taken
 
-  pub plain_ends : (old new : View) (o p : List Output) (frame : Frame) (answer : TakenFrame) (code : ℕ) → answer ≡ plain_taken.Fatal code → plain.IsPlainTaken setup old o frame answer new p → plain.IsFatalFrame setup old o frame code new p
-  plain_ends old new o p frame answer code is taken = subst (λ (t : TakenFrame). plain.IsPlainTaken setup old o frame t new p) is taken
+  pub plain_ends : (old new : View) (frame : Frame) (answer : TakenFrame) (code : ℕ) → answer ≡ plain_taken.Fatal code → plain.IsPlainTaken setup old frame answer new → plain.IsFatalFrame setup old frame code new
+  plain_ends old new frame answer code is taken = subst (λ (t : TakenFrame). plain.IsPlainTaken setup old frame t new) is taken
 
   pub block_goes : (old new : View) (o p : List Output) (frame : Frame) (answer : BlockTaken) (due : Due) (goaway : Option ℕ) (dropped : ℕ) → answer ≡ block_taken.Goes due goaway dropped → block.IsBlockTaken setup old o frame answer new p → block.IsPassed setup old o frame due goaway dropped new p
   block_goes old new o p frame answer due goaway dropped is taken = subst (λ (t : BlockTaken). block.IsBlockTaken setup old o frame t new p) is taken
@@ -78,13 +80,21 @@ module _ (setup : Setup) where
 
   -- ---- it goes on
 
-  -- a frame without a fragment, and then what is due to an upstream
-  pub plain_brings : (a b c : View) (o p q : List Output) (frame : Frame) (due : Due) (dropped fresh : ℕ) → fresh ≡ data_length is_any frame → plain.IsPassed setup a o frame due dropped b p
+  -- a frame without a fragment, and then what is owed
+  pub plain_sent : (a b c : View) (o p : List Output) (frame : Frame) (due : Due) (owed : Owed) (dropped : ℕ) → plain.IsPassed setup a frame due owed dropped b → c ≡ with_sent (owed_frame owed frame) b → p ≡ put_sent (owed_frame owed frame) o → WasFree (owed_frame owed frame) b
+      → Brings setup a balanced o (Came (noted_of frame)) c (record balanced { due = due_by due; fresh = data_length is_any frame; shared = dropped }) p
+  plain_sent a b c o p frame due owed dropped passed kept puts free =
+      subst (λ (v : View). Brings setup a balanced o (Came (noted_of frame)) v (record balanced { due = due_by due; fresh = data_length is_any frame; shared = dropped }) p) (sym kept)
+      (subst (λ (os : List Output). Brings setup a balanced o (Came (noted_of frame)) (with_sent (owed_frame owed frame) b) (record balanced { due = due_by due; fresh = data_length is_any frame; shared = dropped }) os) (sym puts) (passed.brings o free))
+
+  -- and then what is due to an upstream
+  pub plain_brings : (a b c : View) (o p q : List Output) (frame : Frame) (due : Due) (dropped fresh : ℕ) → fresh ≡ data_length is_any frame
+      → Brings setup a balanced o (Came (noted_of frame)) b (record balanced { due = due_by due; fresh = data_length is_any frame; shared = dropped }) p
       → ((n back : ℕ) → PerformsOwn setup b (record balanced { due = due_by due; fresh = n; shared = back }) p c (record balanced { fresh = n; shared = back }) q)
       → Brings setup a balanced o (Came (noted_of frame)) c (record balanced { fresh = fresh; shared = dropped }) q
-  plain_brings a b c o p q frame due dropped fresh is passed serves =
+  plain_brings a b c o p q frame due dropped fresh is brings serves =
       subst (λ n. Brings setup a balanced o (Came (noted_of frame)) c (record balanced { fresh = n; shared = dropped }) q) (sym is)
-      (brings_then setup a b c balanced (record balanced { due = due_by due; fresh = data_length is_any frame; shared = dropped }) (record balanced { fresh = data_length is_any frame; shared = dropped }) o p q (Came (noted_of frame)) passed.brings (serves (data_length is_any frame) dropped))
+      (brings_then setup a b c balanced (record balanced { due = due_by due; fresh = data_length is_any frame; shared = dropped }) (record balanced { fresh = data_length is_any frame; shared = dropped }) o p q (Came (noted_of frame)) brings (serves (data_length is_any frame) dropped))
 
   -- a frame with one, and the GOAWAY where it is owed
   pub goaway_brings : (a b c : View) (o p q : List Output) (frame : Frame) (due : Due) (goaway : Option ℕ) (dropped : ℕ) (passed : block.IsPassed setup a o frame due goaway dropped b p)
@@ -104,8 +114,10 @@ module _ (setup : Setup) where
 
   -- ---- the gateway is in the midst of a step about the frame's stream then
 
-  pub plain_mid : (old new : View) (o p : List Output) (frame : Frame) (due : Due) (dropped : ℕ) → IsSettled old → plain.IsPassed setup old o frame due dropped new p → IsMidStep frame.id new
-  plain_mid old new o p frame due dropped settled passed = mid_about frame.id old new settled.rest.none_done passed.none_cut passed.about (numbered_as old new passed.ids settled.numbered)
+  pub plain_mid : (old new sent : View) (frame : Frame) (due : Due) (owed : Owed) (dropped : ℕ) → IsSettled old → plain.IsPassed setup old frame due owed dropped new → sent ≡ with_sent (owed_frame owed frame) new → IsMidStep frame.id sent
+  plain_mid old new sent frame due owed dropped settled passed is =
+      subst (IsMidStep frame.id) (sym is)
+      (mid_same frame.id new (with_sent (owed_frame owed frame) new) refl refl refl (mid_about frame.id old new settled.rest.none_done passed.none_cut passed.about (numbered_as old new passed.ids settled.numbered)))
 
   pub block_mid : (old new : View) (o p : List Output) (frame : Frame) (due : Due) (goaway : Option ℕ) (dropped : ℕ) → frame.id < 2147483648 → IsSettled old → block.IsPassed setup old o frame due goaway dropped new p → IsMidStep frame.id new
   block_mid old new o p frame due goaway dropped few settled passed = mid_about frame.id old new settled.rest.none_done passed.none_cut passed.about (numbered_with old new frame.id passed.ids few settled.numbered)

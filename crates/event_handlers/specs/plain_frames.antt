@@ -1,3 +1,4 @@
 pub mod Taken
 pub mod Kept
+pub mod Owed
 pub mod Acting

@@ -2,9 +2,9 @@
 //! upstream. Behind each the gateway rests, or the connection to the client was closed.
 //!
 //! The parts are `plain_frames`, `block_frames`, `exchanges`, `paying`, `flushing` and `ending`, in
-//! the order in which the rule takes them: what came in; the GOAWAY behind the last stream; a
-//! connection for a request that is due, or more of one that goes out; octets that go back;
-//! connections that are done with; responses.
+//! the order in which the rule takes them: what came in; the frame that it calls for, or the GOAWAY
+//! behind the last stream; a connection for a request that is due, or more of one that goes out;
+//! octets that go back; connections that are done with; responses.
 #![tactic(auto)]
 
 mod asking;

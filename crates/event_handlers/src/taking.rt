@@ -20,13 +20,14 @@ ghost use Rattle.event_handlers.specs.Inputs.Input.{OfFrame};
 ghost use Rattle.event_handlers.specs.MidStep.{IsHandedOn, IsMidStep};
 ghost use Rattle.event_handlers.specs.Resting.{now_of, IsSettled, RestsSo, IsPassedBy, IsServed};
 ghost use Rattle.event_handlers.specs.Stopping.{IfOver, IsCalmed, EndsFrom};
+ghost use Rattle.event_handlers.specs.plain_frames.Owed.{owed_frame, with_sent, put_sent, WasFree};
 
 use crate::block_frames::{BlockTaken, Outlet, take_block};
 use crate::ending::{Ending, end, shut};
 use crate::exchanges::{open, reuse, send};
 use crate::halt::Halt;
 use crate::paying::{Control, pay, settle};
-use crate::plain_frames::{TakenFrame, take_plain};
+use crate::plain_frames::{Owed, TakenFrame, take_plain};
 use crate::resting::{Onward, come_to_rest, conclude, rest_behind};
 use connection_state::Terms;
 use effects::Outputs;
@@ -134,6 +135,35 @@ fn follow(
     rest_behind(alloc, session, id, out)
 }
 
+/// Sends what is owed for a frame of the client, if something is. An `Err` says that memory was
+/// refused, or that the connection was ended in its place.
+fn pay_owed(
+    session: &mut Session,
+    view: View<'_>,
+    owed: Owed,
+    out: &mut Outputs,
+) -> Result<(), Halt>
+    requires short { length view.payload.now ≤ 16384 }
+    requires of_stream { view.id < 2147483648 }
+    ensures kept { OnOk result (session.new ≡ with_sent (owed_frame owed (frame_of view.entry)) session.old) }
+    ensures puts { OnOk result (out.new ≡ put_sent (owed_frame owed (frame_of view.entry)) out.old) }
+    ensures free { OnOk result (WasFree (owed_frame owed (frame_of view.entry)) session.old) }
+    ensures over { IfErr result (λ stop. IfOver stop ((is_some (owed_frame owed (frame_of view.entry)) ≡ true) × IsCalmed session.old out.old out.new)) }
+{
+    match owed {
+        Owed::Nothing => Ok(()),
+        Owed::SettingsAck => pay(session, Control::SettingsAck, out),
+        Owed::PingAck => pay(session, Control::PingAck(view.payload), out),
+        Owed::Reset(code) => {
+            let reset = Control::Reset {
+                stream: view.id,
+                code,
+            };
+            pay(session, reset, out)
+        }
+    }
+}
+
 /// Takes a frame without a fragment of a header block.
 fn take_other(
     alloc: Global,
@@ -154,12 +184,13 @@ fn take_other(
     ensures over { IfErr result (λ stop. IfOver stop ((setup : Setup) → IsServed setup service.entry
         → ComesFrom setup session.old balanced out.old (OfFrame (frame_of view.entry) ∷ []) balanced None out.new)) }
 {
-    match take_plain(session, view, service.terms.max_body, out)? {
+    match take_plain(session, view, service.terms.max_body)? {
         TakenFrame::Fatal(code) => {
             end(session, Ending::Frame(code), out)?;
             Ok(Onward::Over)
         }
-        TakenFrame::Goes { due, dropped } => {
+        TakenFrame::Goes { due, owed, dropped } => {
+            pay_owed(session, view, owed, out)?;
             serve(session, due, service.passing, out)?;
             follow(alloc, session, view.id, data_octets(view), dropped, out)
         }

@@ -1,9 +1,12 @@
 -- What is done by the judgement's answer is right of the frame.
 use Rattle.std.proofs.Common.{◌≡◌, ℕ, ◌<◌, ◌≤◌, Bool, true, false, not, ◌&&◌, ◌||◌, ◌==◌, if◌then◌else◌, List, [], ◌∷◌, ◌++◌, length, Option, Some, None, refl, sym, ◌∙◌, ap, subst, arith, inl}
 use Rattle.std.proofs.lemmas.Bool.{and_parts, eqb-true}
-use Rattle.std.specs.Prelude.{is_none, option_map}
-use Rattle.model.specs.Frames.{Frame, Fits, data_kind, rst_stream_kind, window_update_kind, settings_kind, ping_kind, settings_ack, enhance_your_calm, is_ack, content, ends_stream, flow_control_error}
+use Rattle.std.specs.Prelude.{is_none, is_some, option_map}
+use Rattle.model.specs.Frames.{Frame, Fits, data_kind, rst_stream_kind, window_update_kind, settings_kind, ping_kind, spell, enhance_your_calm, is_ack, content, ends_stream, flow_control_error}
+use Rattle.model.specs.Causes.{Cause}
 use Rattle.model.specs.Logs.{Output}
+use Rattle.model.specs.Logs.Output.{ToClient}
+use Rattle.model.specs.Tapes.{put}
 use Rattle.model.specs.Setup.{Setup}
 use Rattle.model.specs.SettingValues.{settings_in, settings_fault, values_of, header_table_size, initial_window_after, SettingsFault, code_of_fault}
 use Rattle.model.specs.Tapes.Note.{NoBlock}
@@ -27,7 +30,9 @@ use Rattle.theory_errors.specs.Tidy.{AreKept}
 use Rattle.theory_errors.proofs.Seen.{none_at}
 use Rattle.theory_errors.proofs.Rows.{ids_changed}
 use Rattle.theory_errors.proofs.Tidy.{kept_behind_entry}
-use Rattle.theory_requests.specs.State.{Due}
+use Rattle.theory_responses.specs.State.{change, answered}
+use Rattle.theory_requests.specs.Lines.{without}
+use Rattle.theory_requests.specs.State.{Due, id_of}
 use Rattle.theory_requests.specs.State.Due.{Nothing}
 use Rattle.header_blocks.specs.Encoding.{Encoding}
 use Rattle.theory_header_tables.specs.Rule.{IsNoted}
@@ -48,7 +53,7 @@ use Rattle.theory.specs.Moves.{Move}
 use Rattle.theory.specs.State.{State}
 use Rattle.theory.specs.Steps.{told_by}
 use Rattle.theory.specs.Rule.{Adds, added_in}
-use Rattle.refinement.specs.View.{View, balanced, Leads, waiting_for}
+use Rattle.refinement.specs.View.{View, Pending, balanced, Leads, waiting_for}
 use Rattle.refinement.specs.Rest.{IsAtRest, NoneCut, Reached}
 use Rattle.refinement.specs.Bringing.{Brings}
 use Rattle.refinement.proofs.Answered.{plain_addition, plain_owes}
@@ -58,7 +63,15 @@ use Rattle.refinement.proofs.Coming.{outside_of, encoding_with}
 use Rattle.refinement.specs.Additions.{GoesOn}
 use Rattle.event_handlers.specs.Closings.{IsAbout}
 use Rattle.event_handlers.proofs.Closings.{about_changed, about_then, frame_served}
-use Rattle.event_handlers.specs.plain_frames.Acting.{goes_on, Goes, Ends, IsPaid, IsActed, IsContentIf, IsRepliedBy, IsLeft, MayAct, IsStopped}
+use Rattle.event_handlers.specs.Forgetting.{forgotten}
+use Rattle.event_handlers.specs.paying.Controls.{frame_of, IsShort, IsOwed}
+use Rattle.event_handlers.specs.declared.paying.control.Control.{Control}
+use Rattle.event_handlers.specs.declared.paying.control.Control.TheVariants as control
+use Rattle.event_handlers.specs.declared.plain_frames.taking.Owed.{Owed}
+use Rattle.event_handlers.specs.declared.plain_frames.taking.Owed.TheVariants as owed
+use Rattle.event_handlers.specs.plain_frames.Owed.{owed_frame, with_sent, put_sent, WasFree}
+use Rattle.event_handlers.proofs.paying.Paying.{pays_control}
+use Rattle.event_handlers.specs.plain_frames.Acting.{goes_on, Goes, Ends, IsActed, IsContentIf, IsRepliedBy, IsLeft, MayAct}
 use Rattle.event_handlers.specs.Comings.{ComesFrom}
 use Rattle.event_handlers.specs.Inputs.Input.{OfFrame}
 use Rattle.event_handlers.specs.Stopping.{IsCalmed}
@@ -138,18 +151,32 @@ module _ (setup : Setup) (old : View) (rest : IsAtRest old) (setup' : Setup) (re
   kept : AreKept old.inbound.rows
   kept = kept_rows setup' reached.0 old reached.1 reached.2
 
+  -- what leads to where the gateway stands once this is sent, and what ends in its place
+  abbrev Leads_to : Owed → Due → ℕ → View → Type 0
+  Leads_to owed due back target =
+      (outputs : List Output) → WasFree (owed_frame owed frame) target
+      → Brings setup old balanced outputs (coming frame) (with_sent (owed_frame owed frame) target) (record balanced { due = due; fresh = data_length is_any frame; shared = back }) (put_sent (owed_frame owed frame) outputs)
+
+  abbrev Ends_so : Owed → View → Type 0
+  Ends_so owed target = (outputs p : List Output) → is_some (owed_frame owed frame) ≡ true → IsCalmed target outputs p → ComesFrom setup old balanced outputs (OfFrame frame ∷ []) balanced None p
+
+  -- nothing is owed
+  owes_none : (target : View) → Ends_so owed.Nothing target
+  owes_none target outputs p some calmed = absurd (let no : false ≡ true = some in cc)
+
   -- what is done, in words of the answer that is given
-  finish : (due : Due) (back : ℕ) (answer : TakenFrame) (outputs new_outputs put_out : List Output) (target new : View) → Goes due back answer → new ≡ target → put_out ≡ new_outputs
-      → Brings setup old balanced outputs (coming frame) target (record balanced { due = due; fresh = data_length is_any frame; shared = back }) new_outputs → NoneCut target.offers → IsAbout frame.id old target → ids_of target.inbound.rows ≡ ids_of old.inbound.rows → target.inbound.last ≡ frame.id → (0 < data_length is_any frame → is_past frame.id target.marks ≡ false)
-      → IsPlainTaken setup old outputs frame answer new put_out
-  finish due back (taken.Fatal code) outputs new_outputs put_out target new goes new_is puts brings none_cut about ids last newest = absurd goes
-  finish due back (taken.Goes answer dropped) outputs new_outputs put_out target new goes new_is puts brings none_cut about ids last newest =
-      subst (λ (v : View). IsPassed setup old outputs frame answer dropped v put_out) (sym new_is)
-      (subst (λ (o : List Output). IsPassed setup old outputs frame answer dropped target o) (sym puts)
+  finish : (due : Due) (owed : Owed) (back : ℕ) (answer : TakenFrame) (target new : View) → Goes due owed back answer → new ≡ target
+      → Leads_to owed due back target → Ends_so owed target → NoneCut target.offers → IsAbout frame.id old target → ids_of target.inbound.rows ≡ ids_of old.inbound.rows → target.inbound.last ≡ frame.id → (0 < data_length is_any frame → is_past frame.id target.marks ≡ false)
+      → IsPlainTaken setup old frame answer new
+  finish due owed back (taken.Fatal code) target new goes new_is brings over none_cut about ids last newest = absurd goes
+  finish due owed back (taken.Goes answer what dropped) target new goes new_is brings over none_cut about ids last newest =
+      subst (λ (v : View). IsPassed setup old frame answer what dropped v) (sym new_is)
+      (subst (λ (w : Owed). IsPassed setup old frame answer w dropped target) (sym goes.1)
       (record {
         brings =
-            subst (λ (d : Due). Brings setup old balanced outputs (coming frame) target (record balanced { due = d; fresh = data_length is_any frame; shared = dropped }) new_outputs) (sym goes.0)
-            (subst (λ n. Brings setup old balanced outputs (coming frame) target (record balanced { due = due; fresh = data_length is_any frame; shared = n }) new_outputs) (sym goes.1) brings);
+            subst (λ (d : Due). Leads_to owed d dropped target) (sym goes.0)
+            (subst (λ n. Leads_to owed due n target) (sym goes.2) brings);
+        over = over;
         none_cut = none_cut;
         about = about;
         ids = ids;
@@ -183,11 +210,10 @@ module _ (setup : Setup) (old : View) (rest : IsAtRest old) (setup' : Setup) (re
   completes_none : (x : Book) → AreKept x.rows → completed_in x.block frame ≡ None
   completes_none x kept = none_completed setup x frame plain kept
 
-  fatal_so : (code : ℕ) (answer : TakenFrame) (outputs put_out : List Output) (new : View) → ((outside : Outside) → IsJudged setup (book_of outside old.inbound) frame (book_of outside inbound) (judged.Failed (fault.Connection code)))
-      → Ends code answer → new ≡ mid → put_out ≡ outputs → IsPlainTaken setup old outputs frame answer new put_out
-  fatal_so code (taken.Goes answer dropped) outputs put_out new failed ends new_is puts = absurd ends
-  fatal_so code (taken.Fatal told) outputs put_out new failed ends new_is puts = record {
-    nothing_put = puts;
+  fatal_so : (code : ℕ) (answer : TakenFrame) (new : View) → ((outside : Outside) → IsJudged setup (book_of outside old.inbound) frame (book_of outside inbound) (judged.Failed (fault.Connection code)))
+      → Ends code answer → new ≡ mid → IsPlainTaken setup old frame answer new
+  fatal_so code (taken.Goes answer what dropped) new failed ends new_is = absurd ends
+  fatal_so code (taken.Fatal told) new failed ends new_is = record {
     upstreams = ap (λ (v : View). v.upstreams) new_is;
     encoding = ap (λ (v : View). v.encoding) new_is;
     untaken = ap (λ (v : View). v.untaken) new_is;
@@ -208,72 +234,85 @@ module _ (setup : Setup) (old : View) (rest : IsAtRest old) (setup' : Setup) (re
   -- a frame that gains nothing and calls for nothing
   quiet_so : (answer : Judged) → ((outside : Outside) → IsTaken setup (book_of outside old.inbound) frame (book_of outside inbound) answer) → (kind : ℕ) → frame.kind ≡ kind → (kind == data_kind) ≡ false → (kind == rst_stream_kind) ≡ false → has_settings (record frame { kind = kind }) ≡ false
       → ((outside : Outside) → owes_in setup false (told_of outside old.inbound) (coming frame) ≡ []) → ((run : List Move) (s : State) → Leads setup run old balanced s → added_in setup (told_by s) (noted_of frame) ≡ [])
-      → (given : TakenFrame) (outputs put_out : List Output) (new : View) → IsLeft mid outputs given new put_out → IsPlainTaken setup old outputs frame given new put_out
-  quiet_so answer taken kind is no_data no_reset no_settings owes adds given outputs put_out new left =
-      finish Nothing 0 given outputs outputs put_out mid new left.goes left.kept left.puts
-      (quiet setup old rest frame plain inbound table answer taken (ap (λ k. k == data_kind) is ∙ no_data) (ap (λ k. k == rst_stream_kind) is ∙ no_reset) [] old.encoding owes
+      → (given : TakenFrame) (new : View) → IsLeft owed.Nothing mid given new → IsPlainTaken setup old frame given new
+  quiet_so answer taken kind is no_data no_reset no_settings owes adds given new left =
+      finish Nothing owed.Nothing 0 given mid new left.goes left.kept
+      (λ outputs free. quiet setup old rest frame plain inbound table answer taken (ap (λ k. k == data_kind) is ∙ no_data) (ap (λ k. k == rst_stream_kind) is ∙ no_reset) [] old.encoding owes
       (λ outside. names_none (told_of outside old.inbound) frame (ap (λ k. has_settings (record frame { kind = k })) is ∙ no_settings) old.encoding) adds outputs)
-      rest.none_cut (about_left (taken (outside_of old.untaken)).left (ap is_fatal (taken (outside_of old.untaken)).faultless)) (ids_left (taken (outside_of old.untaken)).left) (last_left (taken (outside_of old.untaken)).left)
+      (owes_none mid) rest.none_cut (about_left (taken (outside_of old.untaken)).left (ap is_fatal (taken (outside_of old.untaken)).faultless)) (ids_left (taken (outside_of old.untaken)).left) (last_left (taken (outside_of old.untaken)).left)
       (no_octets frame old.marks (ap (λ k. k == data_kind) is ∙ no_data))
 
-  -- a control frame is owed, and was sent
+  -- a control frame is owed
   paid_so : (answer : Judged) → ((outside : Outside) → IsTaken setup (book_of outside old.inbound) frame (book_of outside inbound) answer) → (kind : ℕ) → frame.kind ≡ kind → (kind == data_kind) ≡ false → (kind == rst_stream_kind) ≡ false → (encoding : Encoding)
-      → ((outside : Outside) → encoding_with (named_by (verdict_in (told_of outside old.inbound) frame) frame) old.encoding ≡ encoding) → (owed : Frame)
-      → ((outside : Outside) → owes_in setup false (told_of outside old.inbound) (coming frame) ≡ owed ∷ []) → ((run : List Move) (s : State) → Leads setup run old balanced s → added_in setup (told_by s) (noted_of frame) ≡ [])
-      → (given : TakenFrame) (outputs put_out : List Output) (new : View) → IsPaid owed (record mid { encoding = encoding }) outputs given new put_out → IsPlainTaken setup old outputs frame given new put_out
-  paid_so answer taken kind is no_data no_reset encoding encodes owed owes adds given outputs put_out new paid =
-      finish Nothing 0 given outputs put_out put_out new new paid.goes refl refl
-      (brings_then setup old (record mid { encoding = encoding }) new balanced (record balanced { owed = owed ∷ []; fresh = data_length is_any frame }) (record balanced { fresh = data_length is_any frame }) outputs outputs put_out (coming frame)
-      (quiet setup old rest frame plain inbound table answer taken (ap (λ k. k == data_kind) is ∙ no_data) (ap (λ k. k == rst_stream_kind) is ∙ no_reset) (owed ∷ []) encoding owes encodes adds outputs)
-      (paid.performs setup [] (record balanced { owed = owed ∷ []; fresh = data_length is_any frame }) refl (inl refl)))
-      (subst (λ (v : View). NoneCut v.offers) (sym paid.kept) rest.none_cut)
-      (subst (λ (v : View). IsAbout frame.id old v) (sym paid.kept) (let about = about_left (taken (outside_of old.untaken)).left (ap is_fatal (taken (outside_of old.untaken)).faultless) in record { served = about.served; live = about.live }))
-      (ap (λ (v : View). ids_of v.inbound.rows) paid.kept ∙ ids_left (taken (outside_of old.untaken)).left)
-      (ap (λ (v : View). v.inbound.last) paid.kept ∙ last_left (taken (outside_of old.untaken)).left)
-      (no_octets frame new.marks (ap (λ k. k == data_kind) is ∙ no_data))
+      → ((outside : Outside) → encoding_with (named_by (verdict_in (told_of outside old.inbound) frame) frame) old.encoding ≡ encoding) → (what : Owed) (control : Control) → owed_frame what frame ≡ Some (frame_of control) → IsShort control → IsOwed control
+      → ((outside : Outside) → owes_in setup false (told_of outside old.inbound) (coming frame) ≡ frame_of control ∷ []) → ((run : List Move) (s : State) → Leads setup run old balanced s → added_in setup (told_by s) (noted_of frame) ≡ [])
+      → (given : TakenFrame) (new : View) → IsLeft what (record mid { encoding = encoding }) given new → IsPlainTaken setup old frame given new
+  paid_so answer taken kind is no_data no_reset encoding encodes what control owed_is short owing owes adds given new left =
+      finish Nothing what 0 given target new left.goes left.kept
+      (λ outputs free. subst (λ (o : Option Frame). Brings setup old balanced outputs (coming frame) (with_sent o target) (record balanced { fresh = data_length is_any frame }) (put_sent o outputs)) (sym owed_is)
+      (brings_then setup old target (with_sent (Some (frame_of control)) target) balanced due_then (record balanced { fresh = data_length is_any frame }) outputs outputs (put outputs (ToClient (spell (frame_of control)))) (coming frame) (comes outputs)
+      (pays_control setup target due_then [] control short owing (subst (λ (o : Option Frame). WasFree o target) owed_is free) refl (inl refl) outputs)))
+      (λ outputs p some calmed.
+      calm_comes setup old target balanced due_then outputs outputs p (coming frame) (OfFrame frame) refl (comes outputs) (calm_ends setup target due_then (inl (frame_of control, [], refl)) refl outputs p calmed))
+      rest.none_cut
+      (let about = about_left (taken (outside_of old.untaken)).left (ap is_fatal (taken (outside_of old.untaken)).faultless) in record { served = about.served; live = about.live })
+      (ids_left (taken (outside_of old.untaken)).left) (last_left (taken (outside_of old.untaken)).left)
+      (no_octets frame old.marks (ap (λ k. k == data_kind) is ∙ no_data))
+    where
+      target : View
+      target = record mid { encoding = encoding }
+
+      due_then : Pending
+      due_then = record balanced { owed = frame_of control ∷ []; fresh = data_length is_any frame }
+
+      comes : (outputs : List Output) → Brings setup old balanced outputs (coming frame) target due_then outputs
+      comes outputs = quiet setup old rest frame plain inbound table answer taken (ap (λ k. k == data_kind) is ∙ no_data) (ap (λ k. k == rst_stream_kind) is ∙ no_reset) (frame_of control ∷ []) encoding owes encodes adds outputs
 
   -- DATA
   content_so : (answer : Judged) (so : (outside : Outside) → IsTaken setup (book_of outside old.inbound) frame (book_of outside inbound) answer) (kind : frame.kind ≡ data_kind)
       → (octets : List ℕ) (ends : Bool) → octets ≡ content frame → ends ≡ ends_stream frame → cause_behind setup b frame ≡ cause_before b frame
       → ((outside : Outside) → owes_in setup false (told_of outside old.inbound) (coming frame) ≡ [])
       → ((run : List Move) (s : State) → Leads setup run old balanced s → (GoesOn (told_by s) frame.id → Adds setup (told_by s) (noted_of frame) (Content octets ends)) × (((told_by s).stream frame.id).outline.over ≡ true → added_in setup (told_by s) (noted_of frame) ≡ []))
-      → (on : Bool) → goes_on old.inbound.rows frame.id ≡ on → (given : TakenFrame) (outputs put_out : List Output) (new : View) → IsContentIf on ends frame.id octets mid outputs given new put_out → IsPlainTaken setup old outputs frame given new put_out
-  content_so answer so kind octets ends a c d owes additions false on given outputs put_out new left =
-      finish Nothing 0 given outputs outputs put_out mid new left.goes left.kept left.puts
-      (left_alone setup old rest frame plain inbound table answer so kind octets ends a c d owes additions on outputs)
-      rest.none_cut (let about = about_left (so (outside_of old.untaken)).left (ap is_fatal (so (outside_of old.untaken)).faultless) in record { served = about.served; live = about.live }) (ids_left (so (outside_of old.untaken)).left) (last_left (so (outside_of old.untaken)).left)
+      → (on : Bool) → goes_on old.inbound.rows frame.id ≡ on → (given : TakenFrame) (new : View) → IsContentIf on ends frame.id octets mid given new → IsPlainTaken setup old frame given new
+  content_so answer so kind octets ends a c d owes additions false on given new left =
+      finish Nothing owed.Nothing 0 given mid new left.goes left.kept
+      (λ outputs free. left_alone setup old rest frame plain inbound table answer so kind octets ends a c d owes additions on outputs)
+      (owes_none mid) rest.none_cut (let about = about_left (so (outside_of old.untaken)).left (ap is_fatal (so (outside_of old.untaken)).faultless) in record { served = about.served; live = about.live }) (ids_left (so (outside_of old.untaken)).left) (last_left (so (outside_of old.untaken)).left)
       (λ some. data_newest answer so kind)
-  content_so answer so kind octets ends a c d owes additions true on given outputs put_out new done =
-      finish done.0.due 0 given outputs outputs put_out _ new done.0.goes done.0.kept done.1
-      (content_comes setup old rest frame plain inbound table answer so kind octets ends a c d owes additions on done.0.due new.upstreams.held done.0.takes outputs)
-      rest.none_cut (let about = about_left (so (outside_of old.untaken)).left (ap is_fatal (so (outside_of old.untaken)).faultless) in record { served = about.served; live = about.live }) (ids_left (so (outside_of old.untaken)).left) (last_left (so (outside_of old.untaken)).left)
+  content_so answer so kind octets ends a c d owes additions true on given new done =
+      finish done.due owed.Nothing 0 given (record mid { upstreams = record mid.upstreams { held = new.upstreams.held } }) new done.goes done.kept
+      (λ outputs free. content_comes setup old rest frame plain inbound table answer so kind octets ends a c d owes additions on done.due new.upstreams.held done.takes outputs)
+      (owes_none (record mid { upstreams = record mid.upstreams { held = new.upstreams.held } })) rest.none_cut (let about = about_left (so (outside_of old.untaken)).left (ap is_fatal (so (outside_of old.untaken)).faultless) in record { served = about.served; live = about.live }) (ids_left (so (outside_of old.untaken)).left) (last_left (so (outside_of old.untaken)).left)
       (λ some. data_newest answer so kind)
 
   -- a body that is too long
   replied_so : (taken : (outside : Outside) → IsTaken setup (book_of outside old.inbound) frame (book_of outside inbound) judged.LargeBody) → ((outside : Outside) → IsTaken setup' (book_of outside old.inbound) frame (book_of outside inbound) judged.LargeBody) → (out : Bool) → (find old.inbound.rows frame.id).head_out ≡ out
-      → (given : TakenFrame) (outputs put_out : List Output) (new : View) → IsRepliedBy out frame.id mid outputs given new put_out → IsPlainTaken setup old outputs frame given new put_out
-  replied_so taken taken' false out given outputs put_out new done =
-      finish Nothing 0 given outputs outputs put_out _ new done.goes done.kept done.puts
-      (offered setup old rest frame plain inbound table taken out outputs)
+      → (given : TakenFrame) (new : View) → IsRepliedBy out frame.id mid given new → IsPlainTaken setup old frame given new
+  replied_so taken taken' false out given new done =
+      finish Nothing owed.Nothing 0 given (record mid { offers = record mid.offers { kept = change frame.id (answered Cause.LargeBody) mid.offers.kept }; upstreams = record mid.upstreams { held = without id_of frame.id mid.upstreams.held } }) new done.goes done.kept
+      (λ outputs free. offered setup old rest frame plain inbound table taken out outputs)
+      (owes_none (record mid { offers = record mid.offers { kept = change frame.id (answered Cause.LargeBody) mid.offers.kept }; upstreams = record mid.upstreams { held = without id_of frame.id mid.upstreams.held } }))
       (offered_cuts_none setup' old rest frame plain inbound table taken' out reached.0 reached.1 reached.2)
       (let about = about_left (taken (outside_of old.untaken)).left (ap is_fatal (taken (outside_of old.untaken)).faultless) in record { served = about.served; live = about.live })
       (ids_left (taken (outside_of old.untaken)).left) (last_left (taken (outside_of old.untaken)).left)
       (λ some. data_newest judged.LargeBody taken (taken (outside_of old.untaken)).says.0)
-  replied_so taken taken' true out given outputs put_out new done =
-      finish Nothing (waiting_for frame.id old) given outputs _ put_out _ new done.goes done.kept done.puts
-      (cut_short setup old rest frame plain inbound table taken out (fits frame.id enhance_your_calm small) done.few outputs)
+  replied_so taken taken' true out given new done =
+      finish Nothing (owed.Reset enhance_your_calm) (waiting_for frame.id old) given (forgotten frame.id (record mid { inbound = record inbound { rows = changed frame.id (Over true) inbound.rows } })) new done.goes done.kept
+      (λ outputs free. cut_short setup old rest frame plain inbound table taken out (fits frame.id enhance_your_calm small) free outputs)
+      (λ outputs p some calmed. cut_over setup old rest frame plain inbound table taken out outputs p calmed)
       (none_cut_without frame.id old.offers rest.none_cut)
-      (about_then frame.id old mid _ (about_left (taken (outside_of old.untaken)).left (ap is_fatal (taken (outside_of old.untaken)).faultless)) (about_changed frame.id (Over true) mid _ refl refl))
+      (about_then frame.id old mid (forgotten frame.id (record mid { inbound = record inbound { rows = changed frame.id (Over true) inbound.rows } })) (about_left (taken (outside_of old.untaken)).left (ap is_fatal (taken (outside_of old.untaken)).faultless)) (about_changed frame.id (Over true) mid (forgotten frame.id (record mid { inbound = record inbound { rows = changed frame.id (Over true) inbound.rows } })) refl refl))
       (same_ids frame.id (Over true) inbound.rows ∙ ids_left (taken (outside_of old.untaken)).left) (last_left (taken (outside_of old.untaken)).left)
       (λ some. gone_newest frame.id old.marks)
 
   -- What is done by an answer is right of the frame.
-  pub acted_so : (answer : Judged) → ((outside : Outside) → IsJudged setup (book_of outside old.inbound) frame (book_of outside inbound) answer) → ((outside : Outside) → IsJudged setup' (book_of outside old.inbound) frame (book_of outside inbound) answer) → (given : TakenFrame) (outputs put_out : List Output) (new : View)
-      → IsActed (goes_on old.inbound.rows frame.id) frame.id answer mid outputs given new put_out → IsPlainTaken setup old outputs frame given new put_out
-  acted_so (judged.Failed (fault.Connection code)) so so' given outputs put_out new done = fatal_so code given outputs put_out new so done.0 done.1 done.2
-  acted_so (judged.Failed (fault.Stream code)) so so' given outputs put_out new done =
-      finish Nothing (waiting_for frame.id old) given outputs _ put_out _ new done.goes done.kept done.puts
-      (refused setup old rest frame plain inbound table code (fits frame.id code small) (λ outside. (so outside).is) (so (outside_of old.untaken)).left done.few outputs)
+  pub acted_so : (answer : Judged) → ((outside : Outside) → IsJudged setup (book_of outside old.inbound) frame (book_of outside inbound) answer) → ((outside : Outside) → IsJudged setup' (book_of outside old.inbound) frame (book_of outside inbound) answer) → (given : TakenFrame) (new : View) → length frame.payload ≤ 16384
+      → IsActed (goes_on old.inbound.rows frame.id) frame.id answer mid given new → IsPlainTaken setup old frame given new
+  acted_so (judged.Failed (fault.Connection code)) so so' given new short done = fatal_so code given new so done.0 done.1
+  acted_so (judged.Failed (fault.Stream code)) so so' given new short done =
+      finish Nothing (owed.Reset code) (waiting_for frame.id old) given (forgotten frame.id mid) new done.goes done.kept
+      (λ outputs free. refused setup old rest frame plain inbound table code (fits frame.id code small) (λ outside. (so outside).is) (so (outside_of old.untaken)).left free outputs)
+      (λ outputs p some calmed. refused_over setup old rest frame plain inbound table code (fits frame.id code small) (λ outside. (so outside).is) (so (outside_of old.untaken)).left outputs p calmed)
       (none_cut_without frame.id old.offers rest.none_cut)
       (record { served = λ other apart. ap (λ (rows : List Row). is_served rows other) (reset_book ∙ ap (λ (x : Book). x.rows) reset) ∙ (about_changed frame.id (Over true) left_view (record left_view { inbound = record inbound { rows = changed frame.id (Over true) left_rows } }) refl refl).served other apart ∙ frame_served setup b (noted_of frame) (ap is_fatal (so (outside_of old.untaken)).is) kept other apart; live = refl })
       ids last (λ some. gone_newest frame.id old.marks)
@@ -298,20 +337,20 @@ module _ (setup : Setup) (old : View) (rest : IsAtRest old) (setup' : Setup) (re
 
       last : inbound.last ≡ frame.id
       last = ap (λ (x : Book). x.last) (so (outside_of old.untaken)).left
-  acted_so (judged.Failed fault.Discarded) so so' given outputs put_out new done =
-      finish Nothing 0 given outputs outputs put_out mid new done.goes done.kept done.puts
-      (passed_over setup old rest frame plain inbound table (λ outside. (so outside).left) (λ outside. (so outside).is) outputs)
-      rest.none_cut (about_left (so (outside_of old.untaken)).left (ap is_fatal (so (outside_of old.untaken)).is)) (ids_left (so (outside_of old.untaken)).left) (last_left (so (outside_of old.untaken)).left)
+  acted_so (judged.Failed fault.Discarded) so so' given new short done =
+      finish Nothing owed.Nothing 0 given mid new done.goes done.kept
+      (λ outputs free. passed_over setup old rest frame plain inbound table (λ outside. (so outside).left) (λ outside. (so outside).is) outputs)
+      (owes_none mid) rest.none_cut (about_left (so (outside_of old.untaken)).left (ap is_fatal (so (outside_of old.untaken)).is)) (ids_left (so (outside_of old.untaken)).left) (last_left (so (outside_of old.untaken)).left)
       (λ some. by (is_active old.inbound.rows frame.id) refl)
     where
       by : (x : Bool) → is_active old.inbound.rows frame.id ≡ x → is_past frame.id old.marks ≡ false
       by false idle = idle_newest setup' reached.0 old balanced reached.1 reached.2 frame.id idle
       by true active = absurd (active_not_discarded b frame kept active (so (outside_of old.untaken)).is)
-  acted_so judged.Ignored so so' given outputs put_out new done =
+  acted_so judged.Ignored so so' given new short done =
       quiet_so judged.Ignored so frame.kind refl parts.0 parts.1 parts.2
       (λ outside. plain_owes setup (book_of outside old.inbound) frame plain (book_of outside inbound) judged.Ignored (so outside))
       (λ run s leads. plain_addition setup s.ledger.book frame plain (few setup run old s leads) (book_of (record { given = s.ledger.book.given; untaken = old.untaken }) inbound) judged.Ignored (taken_by setup old rest frame plain inbound table judged.Ignored so run s leads))
-      given outputs put_out new done
+      given new done
     where
       ignored : (a b c d e : Bool) → not (a || b || c || d || e) ≡ true → (a ≡ false) × (b ≡ false) × (d ≡ false)
       ignored false false false false false is = (refl, refl, refl)
@@ -323,87 +362,51 @@ module _ (setup : Setup) (old : View) (rest : IsAtRest old) (setup' : Setup) (re
 
       parts : ((frame.kind == data_kind) ≡ false) × ((frame.kind == rst_stream_kind) ≡ false) × (has_settings frame ≡ false)
       parts = ignored (frame.kind == data_kind) (frame.kind == rst_stream_kind) (frame.kind == window_update_kind) (has_settings frame) (frame.kind == ping_kind && not (is_ack frame)) (so (outside_of old.untaken)).says
-  acted_so judged.Granted so so' given outputs put_out new done =
+  acted_so judged.Granted so so' given new short done =
       quiet_so judged.Granted so window_update_kind (so (outside_of old.untaken)).says refl refl refl
       (λ outside. plain_owes setup (book_of outside old.inbound) frame plain (book_of outside inbound) judged.Granted (so outside))
       (λ run s leads. plain_addition setup s.ledger.book frame plain (few setup run old s leads) (book_of (record { given = s.ledger.book.given; untaken = old.untaken }) inbound) judged.Granted (taken_by setup old rest frame plain inbound table judged.Granted so run s leads))
-      given outputs put_out new done
-  acted_so (judged.Settings change) so so' given outputs put_out new done =
+      given new done
+  acted_so (judged.Settings change) so so' given new short done =
       paid_so (judged.Settings change) so settings_kind (eqb-true frame.kind settings_kind (and_parts (frame.kind == settings_kind) (not (is_ack frame)) (so (outside_of old.untaken)).says.0).0) refl refl (limited (values_of header_table_size (settings_in frame.payload)) old.encoding)
-      (λ outside. settings_named (told_of outside old.inbound) frame (so outside).says.0 (so outside).faultless old.encoding) settings_ack
+      (λ outside. settings_named (told_of outside old.inbound) frame (so outside).says.0 (so outside).faultless old.encoding) owed.SettingsAck control.SettingsAck refl tt tt
       (λ outside. plain_owes setup (book_of outside old.inbound) frame plain (book_of outside inbound) (judged.Settings change) (so outside))
       (λ run s leads. plain_addition setup s.ledger.book frame plain (few setup run old s leads) (book_of (record { given = s.ledger.book.given; untaken = old.untaken }) inbound) (judged.Settings change) (taken_by setup old rest frame plain inbound table (judged.Settings change) so run s leads))
-      given outputs put_out new (done (settings_in frame.payload) (so (outside_of old.untaken)).says.1.smallest (so (outside_of old.untaken)).says.1.last)
-  acted_so (judged.Ping octets) so so' given outputs put_out new done =
+      given new (done (settings_in frame.payload) (so (outside_of old.untaken)).says.1.smallest (so (outside_of old.untaken)).says.1.last)
+  acted_so (judged.Ping octets) so so' given new short done =
       paid_so (judged.Ping octets) so ping_kind (so (outside_of old.untaken)).says.0 refl refl old.encoding
-      (λ outside. names_none (told_of outside old.inbound) frame (ap (λ k. has_settings (record frame { kind = k })) (so (outside_of old.untaken)).says.0) old.encoding) (ping_ack octets.now)
+      (λ outside. names_none (told_of outside old.inbound) frame (ap (λ k. has_settings (record frame { kind = k })) (so (outside_of old.untaken)).says.0) old.encoding) owed.PingAck (control.PingAck octets) (ap (λ (xs : List ℕ). Some (ping_ack xs)) (sym (so (outside_of old.untaken)).says.2)) (subst (λ (xs : List ℕ). length xs ≤ 16384) (sym (so (outside_of old.untaken)).says.2) short) tt
       (λ outside. plain_owes setup (book_of outside old.inbound) frame plain (book_of outside inbound) (judged.Ping octets) (so outside))
       (λ run s leads. plain_addition setup s.ledger.book frame plain (few setup run old s leads) (book_of (record { given = s.ledger.book.given; untaken = old.untaken }) inbound) (judged.Ping octets) (taken_by setup old rest frame plain inbound table (judged.Ping octets) so run s leads))
-      given outputs put_out new done
-  acted_so judged.Reset so so' given outputs put_out new done =
-      finish Nothing (waiting_for frame.id old) given outputs outputs put_out _ new done.goes done.kept done.puts
-      (reset_by_client setup old rest frame plain inbound table so (so (outside_of old.untaken)).says outputs)
+      given new done
+  acted_so judged.Reset so so' given new short done =
+      finish Nothing owed.Nothing (waiting_for frame.id old) given (forgotten frame.id mid) new done.goes done.kept
+      (λ outputs free. reset_by_client setup old rest frame plain inbound table so (so (outside_of old.untaken)).says outputs)
+      (owes_none (forgotten frame.id mid))
       (none_cut_without frame.id old.offers rest.none_cut)
       (let about = about_left (so (outside_of old.untaken)).left (ap is_fatal (so (outside_of old.untaken)).faultless) in record { served = about.served; live = about.live })
       (ids_left (so (outside_of old.untaken)).left) (last_left (so (outside_of old.untaken)).left)
       (λ some. gone_newest frame.id old.marks)
-  acted_so (judged.Content octets ends) so so' given outputs put_out new done =
+  acted_so (judged.Content octets ends) so so' given new short done =
       content_so (judged.Content octets ends) so (so (outside_of old.untaken)).says.0 octets.now ends (so (outside_of old.untaken)).says.1 (so (outside_of old.untaken)).says.2 (so (outside_of old.untaken)).says.3
       (λ outside. plain_owes setup (book_of outside old.inbound) frame plain (book_of outside inbound) (judged.Content octets ends) (so outside))
       (λ run s leads. plain_addition setup s.ledger.book frame plain (few setup run old s leads) (book_of (record { given = s.ledger.book.given; untaken = old.untaken }) inbound) (judged.Content octets ends) (taken_by setup old rest frame plain inbound table (judged.Content octets ends) so run s leads))
-      (goes_on old.inbound.rows frame.id) refl given outputs put_out new done
-  acted_so judged.LargeBody so so' given outputs put_out new done =
-      replied_so so so' (find old.inbound.rows frame.id).head_out refl given outputs put_out new
-      (subst (λ out. IsRepliedBy out frame.id mid outputs given new put_out) (head_same setup' old rest frame plain inbound table so' reached.0 reached.1 reached.2) done)
-
-  -- ---- the connection ends in place of a frame
-
-  -- a control frame is owed, and can't go
-  paid_over : (answer : Judged) → ((outside : Outside) → IsTaken setup (book_of outside old.inbound) frame (book_of outside inbound) answer) → (kind : ℕ) → frame.kind ≡ kind → (kind == data_kind) ≡ false → (kind == rst_stream_kind) ≡ false → (encoding : Encoding)
-      → ((outside : Outside) → encoding_with (named_by (verdict_in (told_of outside old.inbound) frame) frame) old.encoding ≡ encoding) → (owed : Frame)
-      → ((outside : Outside) → owes_in setup false (told_of outside old.inbound) (coming frame) ≡ owed ∷ []) → ((run : List Move) (s : State) → Leads setup run old balanced s → added_in setup (told_by s) (noted_of frame) ≡ [])
-      → (outputs p : List Output) → IsCalmed mid outputs p → ComesFrom setup old balanced outputs (OfFrame frame ∷ []) balanced None p
-  paid_over answer taken kind is no_data no_reset encoding encodes owed owes adds outputs p calmed =
-      calm_comes setup old (record mid { encoding = encoding }) balanced (record balanced { owed = owed ∷ []; fresh = data_length is_any frame }) outputs outputs p (coming frame) (OfFrame frame) refl
-      (quiet setup old rest frame plain inbound table answer taken (ap (λ k. k == data_kind) is ∙ no_data) (ap (λ k. k == rst_stream_kind) is ∙ no_reset) (owed ∷ []) encoding owes encodes adds outputs)
-      (calm_ends setup (record mid { encoding = encoding }) (record balanced { owed = owed ∷ []; fresh = data_length is_any frame }) (inl (owed, [], refl)) refl outputs p calmed)
-
-  -- Where the connection was ended in place of what an answer calls for, this is right.
-  pub stopped_so : (answer : Judged) → ((outside : Outside) → IsJudged setup (book_of outside old.inbound) frame (book_of outside inbound) answer) → ((outside : Outside) → IsJudged setup' (book_of outside old.inbound) frame (book_of outside inbound) answer) → (outputs p : List Output)
-      → IsStopped frame.id answer mid outputs p → ComesFrom setup old balanced outputs (OfFrame frame ∷ []) balanced None p
-  stopped_so (judged.Failed (fault.Connection code)) so so' outputs p stopped = absurd stopped
-  stopped_so (judged.Failed (fault.Stream code)) so so' outputs p stopped = refused_over setup old rest frame plain inbound table code (fits frame.id code small) (λ outside. (so outside).is) (so (outside_of old.untaken)).left outputs p stopped
-  stopped_so (judged.Failed fault.Discarded) so so' outputs p stopped = absurd stopped
-  stopped_so judged.Ignored so so' outputs p stopped = absurd stopped
-  stopped_so judged.Granted so so' outputs p stopped = absurd stopped
-  stopped_so (judged.Settings change) so so' outputs p stopped =
-      paid_over (judged.Settings change) so settings_kind (eqb-true frame.kind settings_kind (and_parts (frame.kind == settings_kind) (not (is_ack frame)) (so (outside_of old.untaken)).says.0).0) refl refl (limited (values_of header_table_size (settings_in frame.payload)) old.encoding)
-      (λ outside. settings_named (told_of outside old.inbound) frame (so outside).says.0 (so outside).faultless old.encoding) settings_ack
-      (λ outside. plain_owes setup (book_of outside old.inbound) frame plain (book_of outside inbound) (judged.Settings change) (so outside))
-      (λ run s leads. plain_addition setup s.ledger.book frame plain (few setup run old s leads) (book_of (record { given = s.ledger.book.given; untaken = old.untaken }) inbound) (judged.Settings change) (taken_by setup old rest frame plain inbound table (judged.Settings change) so run s leads))
-      outputs p stopped
-  stopped_so (judged.Ping octets) so so' outputs p stopped =
-      paid_over (judged.Ping octets) so ping_kind (so (outside_of old.untaken)).says.0 refl refl old.encoding
-      (λ outside. names_none (told_of outside old.inbound) frame (ap (λ k. has_settings (record frame { kind = k })) (so (outside_of old.untaken)).says.0) old.encoding) (ping_ack octets.now)
-      (λ outside. plain_owes setup (book_of outside old.inbound) frame plain (book_of outside inbound) (judged.Ping octets) (so outside))
-      (λ run s leads. plain_addition setup s.ledger.book frame plain (few setup run old s leads) (book_of (record { given = s.ledger.book.given; untaken = old.untaken }) inbound) (judged.Ping octets) (taken_by setup old rest frame plain inbound table (judged.Ping octets) so run s leads))
-      outputs p stopped
-  stopped_so judged.Reset so so' outputs p stopped = absurd stopped
-  stopped_so (judged.Content octets ends) so so' outputs p stopped = absurd stopped
-  stopped_so judged.LargeBody so so' outputs p stopped =
-      cut_over setup old rest frame plain inbound table so (sym (head_same setup' old rest frame plain inbound table so' reached.0 reached.1 reached.2) ∙ stopped.0) outputs p stopped.1
+      (goes_on old.inbound.rows frame.id) refl given new done
+  acted_so judged.LargeBody so so' given new short done =
+      replied_so so so' (find old.inbound.rows frame.id).head_out refl given new
+      (subst (λ out. IsRepliedBy out frame.id mid given new) (head_same setup' old rest frame plain inbound table so' reached.0 reached.1 reached.2) done)
 
   -- What has to be so for it is.
-  pub may_act : (answer : Judged) → ((outside : Outside) → IsJudged setup' (book_of outside old.inbound) frame (book_of outside inbound) answer) → length frame.payload ≤ 16384 → MayAct (goes_on old.inbound.rows frame.id) frame.id answer mid
-  may_act (judged.Failed fault) so short = tt
-  may_act judged.Ignored so short = tt
-  may_act (judged.Settings change) so short = tt
-  may_act (judged.Ping octets) so short = subst (λ (xs : List ℕ). length xs ≤ 16384) (sym (so (outside_of old.untaken)).says.2) short
-  may_act judged.Granted so short = tt
-  may_act judged.Reset so short = tt
-  may_act (judged.Content octets ends) so short = λ on.
+  pub may_act : (answer : Judged) → ((outside : Outside) → IsJudged setup' (book_of outside old.inbound) frame (book_of outside inbound) answer) → MayAct (goes_on old.inbound.rows frame.id) frame.id answer mid
+  may_act (judged.Failed fault) so = tt
+  may_act judged.Ignored so = tt
+  may_act (judged.Settings change) so = tt
+  may_act (judged.Ping octets) so = tt
+  may_act judged.Granted so = tt
+  may_act judged.Reset so = tt
+  may_act (judged.Content octets ends) so = λ on.
       may_take setup' old rest frame plain inbound table (judged.Content octets ends) so (so (outside_of old.untaken)).says.0 octets.now ends (so (outside_of old.untaken)).says.1 (so (outside_of old.untaken)).says.2 (so (outside_of old.untaken)).says.3
       (λ outside. plain_owes setup' (book_of outside old.inbound) frame plain (book_of outside inbound) (judged.Content octets ends) (so outside))
       (λ run s leads. plain_addition setup' s.ledger.book frame plain (few setup' run old s leads) (book_of (record { given = s.ledger.book.given; untaken = old.untaken }) inbound) (judged.Content octets ends) (taken_by setup' old rest frame plain inbound table (judged.Content octets ends) so run s leads))
       on reached.0 reached.1 reached.2
-  may_act judged.LargeBody so short = is_active_now setup' old rest frame plain inbound table judged.LargeBody so (so (outside_of old.untaken)).says.0 reached.0 reached.1 reached.2
+  may_act judged.LargeBody so = is_active_now setup' old rest frame plain inbound table judged.LargeBody so (so (outside_of old.untaken)).says.0 reached.0 reached.1 reached.2

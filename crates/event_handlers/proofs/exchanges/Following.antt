@@ -19,4 +19,3 @@ course_own setup run s o p q b c y z entry one later =
       begins = tape_behind two.segment.moves one.segment.moves ∙ ap (λ (u : List Entry). tape_of two.segment.moves ++ u) one.begins ∙ sym (append_assoc (tape_of two.segment.moves) one.own (entry ∷ []));
       are_own = own_behind (tape_of two.segment.moves) one.own two.are_own one.are_own;
     }
-

@@ -1,5 +1,5 @@
 -- Behind an answer that failed: the reset that is owed, where a final head is out, is paid, and none is owed then.
-use Rattle.std.proofs.Common.{◌≡◌, ℕ, ◌<◌, Bool, true, false, ◌&&◌, ◌==◌, List, [], ◌∷◌, ◌++◌, ◌+◌, map, Option, Some, None, refl, sym, ◌∙◌, ap, subst, inl, inr, if◌then◌else◌, append_assoc, arith, nat_lt}
+use Rattle.std.proofs.Common.{◌≡◌, ℕ, ◌<◌, Bool, true, false, ◌&&◌, ◌==◌, List, [], ◌∷◌, ◌+◌, Option, Some, None, refl, sym, ◌∙◌, ap, subst, inl, inr, if◌then◌else◌, arith, nat_lt}
 use Rattle.std.specs.Prelude.{◌⊎◌, is_some, is_none, option_map}
 use Rattle.std.specs.List.{list_any}
 use Rattle.model.specs.Frames.{Frame, Fits, spell, internal_error}
@@ -42,15 +42,13 @@ use Rattle.theory_requests.specs.Lines.{find, without, is_idle}
 use Rattle.theory_requests.specs.State.{Held, id_of}
 use Rattle.streams.specs.Asked as asked
 use Rattle.streams.specs.Asked.{has}
-use Rattle.upstream_connections.specs.Connections.{Connection, number_of, answer_at}
+use Rattle.upstream_connections.specs.Connections.{Connection, number_of}
 use Rattle.theory.specs.Moves.{Move}
 use Rattle.theory.specs.State.{State, conducts, tape_of}
 use Rattle.theory.proofs.Telling.{all_moved}
 use Rattle.refinement.specs.View.{View, Pending, balanced, waiting_for, Leads}
 use Rattle.refinement.specs.Rest.{IsAtRest}
 use Rattle.refinement.specs.Bringing.{Course, OwnSegment, PerformsOwn}
-use Rattle.refinement.proofs.Bringing.{own_behind, segments_then}
-use Rattle.refinement.proofs.Performing.{tape_behind}
 use Rattle.refinement.proofs.Resets.{reset_view, reset_paid, has_same}
 use Rattle.model.specs.Limits.{most_untaken}
 use Rattle.event_handlers.specs.Comings.{Comes}

@@ -1,6 +1,6 @@
 -- Octets that are due on an open connection go out: this performs.
-use Rattle.std.proofs.Common.{◌≡◌, ℕ, ◌+◌, ◌<◌, ◌^◌, false, ◌==◌, List, [], ◌∷◌, map, length, Option, Some, None, refl, sym, ◌∙◌, ap, subst, inl, if◌then◌else◌}
-use Rattle.std.specs.Prelude.{is_some, option_map, IfSome}
+use Rattle.std.proofs.Common.{◌≡◌, ℕ, ◌+◌, ◌<◌, ◌^◌, false, ◌==◌, List, ◌∷◌, map, length, Option, Some, None, refl, sym, ◌∙◌, ap, subst, inl, if◌then◌else◌}
+use Rattle.std.specs.Prelude.{is_some, IfSome}
 use Rattle.std.specs.List.{list_any}
 use Rattle.model.specs.Logs.{Output}
 use Rattle.model.specs.Logs.Act.{ToUp}
@@ -13,7 +13,7 @@ use Rattle.theory_requests.specs.State as theory_requests
 use Rattle.theory_requests.specs.Lines.{Line, line_of, find}
 use Rattle.theory_requests.specs.State.Due.{Nothing, ToSend}
 use Rattle.theory_requests.specs.Rule.{is_done}
-use Rattle.theory_requests.proofs.Lists.{found_key, find_map}
+use Rattle.theory_requests.proofs.Lists.{found_key}
 use Rattle.model.proofs.AloneLaws.{none_begins}
 use Rattle.theory_requests.proofs.Standing as standing
 use Rattle.theory_requests.proofs.Standing.{IsSending, IsDue}

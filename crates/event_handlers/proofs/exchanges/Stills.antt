@@ -1,5 +1,5 @@
 -- What came of an upstream leaves the gateway in the midst of a step about its stream at most.
-use Rattle.std.proofs.Common.{◌≡◌, ◌<◌, ℕ, true, false, List, Option, refl, sym, ◌∙◌, ap, subst}
+use Rattle.std.proofs.Common.{◌≡◌, ℕ, true, false, List, Option, sym, ap, subst}
 use Rattle.connection_state.specs.Inbound.{Inbound}
 use Rattle.model.specs.Logs.{Output}
 use Rattle.theory_requests.specs.Lines.{Heard}
@@ -12,7 +12,7 @@ use Rattle.upstream_response.specs.declared.answer.AnswerEnd.TheVariants as ende
 use Rattle.upstream_response.specs.declared.answer.Heard.{Heard as Told}
 use Rattle.upstream_response.specs.declared.answer.ResponsePassing.TheVariants.{Streaming}
 use Rattle.refinement.specs.View.{View}
-use Rattle.refinement.specs.Rest.{NoneCut, NoneDone}
+use Rattle.refinement.specs.Rest.{NoneCut}
 use Rattle.event_handlers.specs.MidStep.{IsMidStep}
 use Rattle.event_handlers.specs.Resting.{AreNumbered}
 use Rattle.event_handlers.specs.exchanges.Finishing.{closed_by, finished_at}

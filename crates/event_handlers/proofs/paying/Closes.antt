@@ -1,5 +1,5 @@
 -- A connection that is done with is closed: this performs.
-use Rattle.std.proofs.Common.{◌≡◌, ℕ, suc, false, List, [], ◌∷◌, map, refl, sym, ◌∙◌, ap, subst, inl}
+use Rattle.std.proofs.Common.{◌≡◌, ℕ, suc, List, ◌∷◌, map, refl, sym, ◌∙◌, ap, subst, inl}
 use Rattle.model.specs.Logs.{Output}
 use Rattle.model.specs.Logs.Output.{Does as Puts}
 use Rattle.model.specs.Logs.Act.{Close}
@@ -10,7 +10,6 @@ use Rattle.theory_requests.specs.State as theory_requests
 use Rattle.theory_requests.specs.Lines.{Line, without, k_of, line_of}
 use Rattle.theory_requests.specs.State.{drop_from}
 use Rattle.theory_requests.specs.Rule.{is_done, MayClose}
-use Rattle.upstream_connections.specs.Kept as upstreams
 use Rattle.upstream_connections.specs.Connections.{number_of, lives, AreBelow}
 use Rattle.theory.specs.Moves.{Move, told_in}
 use Rattle.theory.specs.Moves.Decision.{Acts}

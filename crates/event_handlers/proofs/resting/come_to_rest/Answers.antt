@@ -1,4 +1,3 @@
-use Rattle.std.proofs.Common.{refl}
 use Rattle.refinement.specs.View.{balanced}
 use Rattle.refinement.specs.Rest.{back_of}
 use Rattle.event_handlers.specs.Resting.{now_of}

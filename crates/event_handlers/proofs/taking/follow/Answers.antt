@@ -1,13 +1,8 @@
-use Rattle.std.proofs.Common.{refl, sym, ◌∙◌, ap, subst}
-use Rattle.theory_responses.specs.State as theory_responses
-use Rattle.upstream_connections.specs.Kept.{State}
-use Rattle.upstream_connections.specs.Connections.{lives}
+use Rattle.std.proofs.Common.{refl, ◌∙◌}
 use Rattle.refinement.specs.View.{balanced}
-use Rattle.refinement.specs.Rest.{NoneCut}
 use Rattle.event_handlers.proofs.MidSteps.{mid_returned}
 use Rattle.event_handlers.proofs.Calming.{calm_behind}
 use Rattle.event_handlers.specs.Resting.{now_of}
-use Rattle.event_handlers.proofs.Closings.{but_stays}
 use Rattle.event_handlers.proofs.Ends.{shut_follows}
 use Rattle.event_handlers.proofs.Following.{follows_then}
 use Rattle.event_handlers.proofs.Results.{if_ok, on_over, stopped}

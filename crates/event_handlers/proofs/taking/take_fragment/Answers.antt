@@ -1,27 +1,19 @@
-use Rattle.std.proofs.Common.{◌≡◌, Bool, true, sym, ◌∙◌, ap, refl, subst, inl}
+use Rattle.std.proofs.Common.{◌≡◌, Bool, ◌∙◌, ap, refl, inl}
 use Rattle.model.specs.Setup.{Setup}
 use Rattle.model.specs.Tapes.Entry.{Came}
 use Rattle.upstream_response.specs.Waiting.{passing_in}
 use Rattle.theory_requests.specs.State.{is_streaming}
 use Rattle.frames.specs.Views.{frame_of}
-use Rattle.connection_state.specs.Inbound.{Inbound}
-use Rattle.theory_responses.specs.State as theory_responses
-use Rattle.streams.specs.Asked.{has}
-use Rattle.streams.specs.Sending.{is_served}
-use Rattle.upstream_connections.specs.Kept.{State}
-use Rattle.upstream_connections.specs.Connections.{lives}
 use Rattle.upstream_connections.specs.Requests.{due_by}
 use Rattle.event_handlers.proofs.MidSteps.{mid_handed, mid_same}
 use Rattle.event_handlers.proofs.Calming.{calm_ends, calm_comes}
 use Rattle.event_handlers.specs.block_frames.Following.{goaway_frames}
 use Rattle.refinement.specs.View.{balanced}
-use Rattle.refinement.specs.Rest.{NoneCut, back_of}
-use Rattle.refinement.proofs.Bringing.{brings_then}
+use Rattle.refinement.specs.Rest.{back_of}
 use Rattle.event_handlers.specs.Inputs.Input.{OfFrame}
 use Rattle.event_handlers.specs.Resting.{now_of, IsServed}
 use Rattle.event_handlers.specs.block_frames.Taken.{IsOutlet}
 use Rattle.event_handlers.specs.declared.taking.ServiceTerms.{ServiceTerms}
-use Rattle.event_handlers.proofs.Closings.{about_but, but_stays}
 use Rattle.event_handlers.proofs.Following.{comes_then}
 use Rattle.event_handlers.proofs.Frames.{block_mid, block_goes, block_ends, goaway_brings, block_brings, goaway_owed, fatal_comes}
 use Rattle.event_handlers.proofs.Results.{if_ok, on_over, stopped}

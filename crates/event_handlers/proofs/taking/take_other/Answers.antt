@@ -1,4 +1,4 @@
-use Rattle.std.proofs.Common.{◌≡◌, ◌<◌, true, false, sym, ◌∙◌, ap, refl, subst}
+use Rattle.std.proofs.Common.{◌≡◌, ◌<◌, false, sym, ◌∙◌, ap, refl, subst}
 use Rattle.model.specs.Tapes.Entry.{Came}
 use Rattle.model.specs.WindowsOnTape.{is_any, data_length}
 use Rattle.theory_errors.specs.Quiet.{noted_of}

@@ -1,26 +1,19 @@
-use Rattle.std.proofs.Common.{◌<◌, false, ap, sym, ◌∙◌, subst}
+use Rattle.std.proofs.Common.{◌<◌, ap, sym, ◌∙◌, subst}
 use Rattle.upstream_response.specs.declared.answer.AnswerEnd.{AnswerEnd}
-use Rattle.upstream_response.specs.declared.answer.ResponsePassing.TheVariants.{Streaming}
 use Rattle.model.specs.Logs.Event.{UpEnd}
 use Rattle.model.specs.Tapes.Entry.{Happened}
 use Rattle.theory_requests.specs.Lines.{find}
-use Rattle.theory_requests.specs.Lines.Heard.{Finished}
-use Rattle.streams.specs.Asked.{has, is_active}
-use Rattle.connection_state.specs.Inbound.{Inbound}
-use Rattle.theory_responses.specs.State as theory_responses
-use Rattle.upstream_connections.specs.Connections.{number_of, fresh}
+use Rattle.streams.specs.Asked.{is_active}
+use Rattle.upstream_connections.specs.Connections.{number_of}
 use Rattle.refinement.specs.View.{View, balanced}
-use Rattle.refinement.specs.Rest.{NoneCut, NoneDone}
 use Rattle.refinement.specs.Bringing.{Brings}
 use Rattle.event_handlers.specs.exchanges.Giving.{closed_at}
 use Rattle.event_handlers.specs.exchanges.Taking.{IsEndTaken}
 use Rattle.event_handlers.proofs.MidSteps.{still_rests, if_still, if_mid}
 use Rattle.event_handlers.proofs.exchanges.Stills.{closed_still, end_still, end_finished_still, abandoned_mid}
-use Rattle.event_handlers.proofs.Closings.{if_any, if_stream}
 use Rattle.event_handlers.proofs.Results.{if_ok, on_over}
-use Rattle.event_handlers.proofs.exchanges.Closes.{if_then, found_for, if_found, idle_for, stream_active, stream_numbered, stream_kept, cut_short, cut_short_over, end_none_cut, abandoned_none_cut, abandoned_numbered}
-use Rattle.event_handlers.proofs.exchanges.Done.{answered_none, abandoned_none_but, closed_none_done}
-use Rattle.event_handlers.proofs.exchanges.Finishes.{end_finished, end_open, end_finished_none, finished_offers, finished_inbound}
+use Rattle.event_handlers.proofs.exchanges.Closes.{if_then, found_for, if_found, idle_for, stream_active, stream_numbered, stream_kept, cut_short, cut_short_over}
+use Rattle.event_handlers.proofs.exchanges.Finishes.{end_finished, end_open}
 use Rattle.event_handlers.proofs.exchanges.Idles.{idle_ends}
 use Rattle.event_handlers.proofs.exchanges.hearing.end.Goals as goal
 

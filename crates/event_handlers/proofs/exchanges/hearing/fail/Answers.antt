@@ -2,19 +2,16 @@ use Rattle.std.proofs.Common.{◌≡◌, ◌<◌, true, sym, ◌∙◌, ap, subs
 use Rattle.model.specs.Logs.Event.{UpFailed}
 use Rattle.model.specs.Tapes.Entry.{Happened}
 use Rattle.theory_requests.specs.Lines.{find}
-use Rattle.streams.specs.Asked.{has, is_active}
+use Rattle.streams.specs.Asked.{is_active}
 use Rattle.upstream_connections.specs.Connections.{number_of}
 use Rattle.refinement.specs.View.{View, balanced}
-use Rattle.refinement.specs.Rest.{NoneCut, NoneDone}
 use Rattle.refinement.specs.Bringing.{Brings}
 use Rattle.event_handlers.specs.Stopping.{IsCalmed}
 use Rattle.event_handlers.proofs.MidSteps.{still_rests, if_still, if_mid}
 use Rattle.event_handlers.proofs.exchanges.Stills.{closed_still, given_mid}
 use Rattle.event_handlers.proofs.Results.{stopped}
 use Rattle.event_handlers.specs.exchanges.Giving.{closed_at, IsGivenUp, is_cut_then, replied_to}
-use Rattle.event_handlers.proofs.Closings.{if_any, if_stream}
-use Rattle.event_handlers.proofs.exchanges.Closes.{count_of, found_for, if_found, idle_for, stream_active, stream_numbered, is_gone, given_up_none_cut, given_up_numbered, is_gone_over}
-use Rattle.event_handlers.proofs.exchanges.Done.{closed_none_done, given_none_but}
+use Rattle.event_handlers.proofs.exchanges.Closes.{count_of, found_for, if_found, idle_for, stream_active, stream_numbered, is_gone, is_gone_over}
 use Rattle.event_handlers.proofs.exchanges.Idles.{idle_fails}
 use Rattle.event_handlers.proofs.exchanges.hearing.fail.Goals as goal
 

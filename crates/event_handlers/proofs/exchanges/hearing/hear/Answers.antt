@@ -4,24 +4,19 @@ use Rattle.model.specs.Logs.Event.{Up}
 use Rattle.model.specs.Tapes.Entry.{Happened}
 use Rattle.theory_requests.specs.Lines.{find}
 use Rattle.theory_requests.specs.Lines.Heard.{Finished}
-use Rattle.streams.specs.Asked.{has, is_active}
-use Rattle.connection_state.specs.Inbound.{Inbound}
-use Rattle.theory_responses.specs.State as theory_responses
+use Rattle.streams.specs.Asked.{is_active}
 use Rattle.upstream_connections.specs.Connections.{number_of}
 use Rattle.upstream_connections.specs.Progress.{heard_of}
 use Rattle.refinement.specs.View.{View, balanced}
-use Rattle.refinement.specs.Rest.{NoneCut, NoneDone}
 use Rattle.refinement.specs.Bringing.{Brings}
 use Rattle.event_handlers.specs.exchanges.Finishing.{closed_by}
 use Rattle.event_handlers.specs.exchanges.Taking.{AreTaken}
 use Rattle.event_handlers.proofs.MidSteps.{still_rests, if_still, if_mid}
 use Rattle.event_handlers.proofs.exchanges.Stills.{closed_by_still, taken_still, taken_finished_still, abandoned_mid}
-use Rattle.event_handlers.proofs.Closings.{if_any, if_stream}
 use Rattle.event_handlers.proofs.Results.{if_ok, on_over}
-use Rattle.event_handlers.proofs.exchanges.Closes.{if_then, found_for, if_found, idle_for, stream_active, stream_numbered, stream_kept, goes_on, fails, fails_over, taken_none_cut, abandoned_none_cut, abandoned_numbered}
-use Rattle.event_handlers.proofs.exchanges.Done.{abandoned_none_but}
-use Rattle.event_handlers.proofs.exchanges.Finishes.{keepable_finished, whole_finished, taken_open, taken_none, taken_finished_none, finished_offers, finished_inbound, closed_by_offers, closed_by_inbound}
-use Rattle.event_handlers.proofs.exchanges.Idles.{idle_hears, closed_by_none}
+use Rattle.event_handlers.proofs.exchanges.Closes.{if_then, found_for, if_found, idle_for, stream_active, stream_numbered, stream_kept, goes_on, fails, fails_over}
+use Rattle.event_handlers.proofs.exchanges.Finishes.{keepable_finished, whole_finished, taken_open}
+use Rattle.event_handlers.proofs.exchanges.Idles.{idle_hears}
 use Rattle.event_handlers.proofs.exchanges.hearing.hear.Goals as goal
 
 -- ---- of an idle one

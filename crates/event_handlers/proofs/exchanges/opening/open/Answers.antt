@@ -1,10 +1,10 @@
-use Rattle.std.proofs.Common.{◌≡◌, ℕ, true, false, ◌<◌, List, length, codes, refl, sym, ◌∙◌, ap, subst}
+use Rattle.std.proofs.Common.{◌≡◌, ℕ, true, ◌<◌, List, length, codes, refl, sym, ◌∙◌, ap, subst}
 use Rattle.std.proofs.lemmas.Result.{on_ok_weaker}
 use Rattle.model.specs.Causes.{is_front_of}
 use Rattle.model.specs.Limits.{most_streams}
 use Rattle.upstream_connections.specs.Requests.{due_for, stage_of}
 use Rattle.upstream_response.specs.Waiting.{passing_in}
-use Rattle.window_credit.specs.Sides.{Side, is_above_all, is_past}
+use Rattle.window_credit.specs.Sides.{Side, is_above_all}
 use Rattle.refinement.specs.View.{View, balanced}
 use Rattle.refinement.specs.Rest.{told_view}
 use Rattle.refinement.specs.Bringing.{PerformsOwn}

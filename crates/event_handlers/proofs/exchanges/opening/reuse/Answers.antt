@@ -1,4 +1,4 @@
-use Rattle.std.proofs.Common.{◌≡◌, ℕ, true, false, None, ◌<◌, ◌+◌, ◌^◌, List, length, codes, refl, sym, ◌∙◌, ap, subst, arith}
+use Rattle.std.proofs.Common.{◌≡◌, ℕ, true, ◌<◌, ◌+◌, ◌^◌, List, length, codes, refl, sym, ◌∙◌, ap, subst, arith}
 use Rattle.std.specs.Prelude.{Option, is_some, IfSome}
 use Rattle.std.proofs.lemmas.Result.{on_ok_weaker}
 use Rattle.model.specs.Causes.{is_front_of}
@@ -7,7 +7,7 @@ use Rattle.upstream_connections.specs.Connections.{Connection, number_of}
 use Rattle.theory_requests.specs.Lines.{find}
 use Rattle.upstream_response.specs.Waiting.{passing_in}
 use Rattle.window_credit.specs.Sides.{find as find_side}
-use Rattle.window_credit.specs.Sides.{Side, is_above_all, is_past}
+use Rattle.window_credit.specs.Sides.{Side, is_above_all}
 use Rattle.refinement.specs.View.{View, balanced}
 use Rattle.refinement.specs.Rest.{told_view}
 use Rattle.refinement.specs.Bringing.{PerformsOwn}

@@ -1,11 +1,11 @@
-use Rattle.std.proofs.Common.{rules, ◌≡◌, false, ◌∙◌, ◌+◌, ◌<◌, ◌^◌, ℕ, List, Option, sym, ap, subst}
+use Rattle.std.proofs.Common.{rules, ◌≡◌, ◌∙◌, ◌+◌, ◌<◌, ◌^◌, ℕ, List, Option, sym, ap, subst}
 use Rattle.std.proofs.lemmas.Result.{on_ok_weaker}
 use Rattle.std.specs.Prelude.{is_some, IfSome, OnOk}
 use Rattle.model.specs.Logs.Act.{ToUp}
 use Rattle.model.specs.Logs.Output.{Does}
 use Rattle.model.specs.Tapes.{put}
 use Rattle.window_credit.specs.Sides.{find as find_side}
-use Rattle.window_credit.specs.Sides.{Side, is_past}
+use Rattle.window_credit.specs.Sides.{is_past}
 use Rattle.theory_requests.specs.Lines.{find}
 use Rattle.theory_requests.specs.State.Due.{ToSend}
 use Rattle.upstream_connections.specs.Connections.{Connection, number_of, HasRoom}

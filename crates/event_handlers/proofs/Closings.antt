@@ -1,6 +1,6 @@
 -- Which connections are done with, behind a change that is about one stream.
 use Rattle.std.proofs.Common.{◌≡◌, ℕ, suc, ◌<◌, ◌≤◌, Bool, true, false, not, ◌==◌, ◌||◌, ◌&&◌, List, [], ◌∷◌, length, Option, Some, None, refl, sym, ◌∙◌, ap, subst, inl, inr, if◌then◌else◌, arith}
-use Rattle.std.specs.Prelude.{is_none, is_some, IfSome}
+use Rattle.std.specs.Prelude.{is_none}
 use Rattle.std.specs.List.{list_any}
 use Rattle.std.proofs.lemmas.Bool.{eq-eqb, eqb-true, ne_eqb, cases_Bool, and_parts}
 use Rattle.std.proofs.lemmas.Bool.Decides.{eqb_tells}
@@ -270,18 +270,3 @@ served_same id kept rows active over cause other = elim (eqb_tells id other) [
 pub frame_served : (setup : Setup) (book : Book) (noted : Noted) → is_fatal (fault_in (summary_in book) (Came noted)) ≡ false → AreKept book.rows → (other : ℕ) → (noted.frame.id == other) ≡ false
     → is_served (book_after setup false book (Came noted)).rows other ≡ is_served book.rows other
 frame_served setup book noted mild kept other apart = served_stays book (book_after setup false book (Came noted)) other (others_stay setup book noted mild kept other apart)
-
--- ---- the stream of an open connection
-
-pub if_stream : (o : Option Connection) (stream : ℕ) (v : View) → IfSome o (λ c. stream ≡ c.live.stream) → NoneDoneBut stream v → IfSome o (λ c. NoneDoneBut c.live.stream v)
-if_stream None stream v of none = tt
-if_stream (Some c) stream v of none = subst (λ n. NoneDoneBut n v) of none
-
-pub of_stream : (o : Option Connection) (stream : ℕ) (v : View) → is_some o ≡ true → IfSome o (λ c. stream ≡ c.live.stream) → IfSome o (λ c. NoneDoneBut c.live.stream v) → NoneDoneBut stream v
-of_stream None stream v some of none = absurd (let no : false ≡ true = some in cc)
-of_stream (Some c) stream v some of none = subst (λ n. NoneDoneBut n v) (sym of) none
-
--- nothing is done with, so nothing but those of its stream
-pub if_any : (o : Option Connection) (v : View) → NoneDone v → IfSome o (λ c. NoneDoneBut c.live.stream v)
-if_any None v none = tt
-if_any (Some c) v none = but_one c.live.stream v none

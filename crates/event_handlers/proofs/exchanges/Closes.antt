@@ -17,7 +17,6 @@ use Rattle.upstream_response.specs.Hearing.{Tells, IsHeard}
 use Rattle.upstream_response.specs.declared.answer.Heard.{Heard}
 use Rattle.upstream_response.specs.declared.answer.Heard.TheVariants as heard
 use Rattle.upstream_response.specs.declared.answer.ResponsePassing.TheVariants.{Streaming}
-use Rattle.upstream_response.specs.declared.answer.AnswerEnd.{AnswerEnd}
 use Rattle.upstream_response.specs.declared.answer.AnswerEnd.TheVariants as ended
 use Rattle.send_queue.specs.Asked.{is_cut_if, is_kept}
 use Rattle.send_queue.specs.Changes.{with_box, refilled}
@@ -282,19 +281,6 @@ module _ (kept : View) (rest : IsAtRest kept) (k : ℕ) (outputs : List Output) 
   is_gone_over p stopped run s leads =
       let own : (is_cut_then it.connection.live.stream (closed_at k kept) ≡ true) × IsCalmed (replied_to it.connection.live.stream (closed_at k kept)) outputs p = subst (λ n. (is_cut_then n (closed_at k kept) ≡ true) × IsCalmed (replied_to n (closed_at k kept)) outputs p) it.of stopped in
       lost_over setup kept rest run s leads k it.connection it.found it.working outputs (Happened (UpFailed k)) (OfEvent (UpFailed k)) refl p own.0 (brings.failure_brings setup kept rest run s leads k it.connection it.found it.working outputs) own.1
-
--- ---- what holds behind what was taken
-
--- no reset is owed behind octets or an end that aren't judged yet, and the streams are as they were
-pub taken_none_cut : (kept : View) (k : ℕ) (octets : List ℕ) (h : Heard) (new : View) → NoneCut kept.offers → AreTaken kept k octets h new → NoneCut new.offers
-taken_none_cut kept k octets h new none taken =
-    let x = taken.hears in
-    subst (λ (o : theory_responses.State). NoneCut o) (sym (ap (λ (v : View). v.offers) taken.is ∙ x.is)) (filled_none_cut taken.connection.live.stream x.box kept.offers x.stream x.found none)
-
-pub end_none_cut : (kept : View) (k : ℕ) (e : AnswerEnd) (new : View) → NoneCut kept.offers → IsEndTaken kept k e new → NoneCut new.offers
-end_none_cut kept k e new none taken =
-    let x = taken.ends in
-    subst (λ (o : theory_responses.State). NoneCut o) (sym (ap (λ (v : View). v.offers) taken.is ∙ x.is)) (filled_none_cut taken.connection.live.stream x.box kept.offers x.stream x.found none)
 
 -- ---- the stream of an open connection
 

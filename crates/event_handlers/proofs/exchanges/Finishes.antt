@@ -1,5 +1,5 @@
 -- A response is whole with octets, or with the end of its connection, which is idle then, or closed: what the calls come to.
-use Rattle.std.proofs.Common.{◌≡◌, ℕ, ◌≤◌, Bool, true, false, not, ◌&&◌, if◌then◌else◌, List, [], ◌∷◌, length, Some, None, refl, sym, ◌∙◌, ap, subst}
+use Rattle.std.proofs.Common.{◌≡◌, ℕ, ◌≤◌, Bool, true, false, not, ◌&&◌, if◌then◌else◌, List, length, Some, None, refl, sym, ◌∙◌, ap}
 use Rattle.std.specs.Prelude.{Option, IfSome, is_some, option_map}
 use Rattle.model.specs.Logs.{Output}
 use Rattle.model.specs.Logs.Event.{Up, UpEnd}
@@ -18,12 +18,12 @@ use Rattle.theory_requests.proofs.Lists.{find_map}
 use Rattle.theory_requests.specs.State.{Held, held_of}
 use Rattle.upstream_connections.specs.Connections.{Connection, number_of, lives, answer_at, marked_at, is_idle_one, fresh}
 use Rattle.refinement.specs.View.{View, balanced}
-use Rattle.refinement.specs.Rest.{IsAtRest, NoneDone}
+use Rattle.refinement.specs.Rest.{IsAtRest}
 use Rattle.refinement.specs.Bringing.{Brings}
-use Rattle.event_handlers.specs.exchanges.Finishing.{IsKeeping, closed_by, marked_as, is_idle_then, closed_unless, verdict_by, put_unless, finished_at, put_finished}
+use Rattle.event_handlers.specs.exchanges.Finishing.{IsKeeping, marked_as, is_idle_then, closed_unless, verdict_by, put_unless, finished_at, put_finished}
 use Rattle.event_handlers.specs.exchanges.Taking.{served_by, answered_with, left_of, AreTaken, IsEndTaken}
 use Rattle.event_handlers.proofs.exchanges.Closes.{IsFoundFor, keepable, finished, completes}
-use Rattle.event_handlers.proofs.exchanges.Done.{answered_none, answered_found, finish_brings, finished_none}
+use Rattle.event_handlers.proofs.exchanges.Done.{answered_found, finish_brings}
 
 verdict_whole : (keep : Bool) (held : Option Held) → verdict_by keep held ≡ Partly → ⊥
 verdict_whole true None is = cc
@@ -32,7 +32,7 @@ verdict_whole false None is = cc
 verdict_whole false (Some h) is = cc
 
 -- a connection whose answer was lent out is found still
-found_then : (kept middle : View) (k : ℕ) (answer : Answer) (offers : theory_responses.State) (c : Connection) → find number_of k kept.upstreams.live ≡ Some c → middle ≡ answered_with k answer offers kept → find number_of k middle.upstreams.live ≡ Some (answer_at k answer c)
+pub found_then : (kept middle : View) (k : ℕ) (answer : Answer) (offers : theory_responses.State) (c : Connection) → find number_of k kept.upstreams.live ≡ Some c → middle ≡ answered_with k answer offers kept → find number_of k middle.upstreams.live ≡ Some (answer_at k answer c)
 found_then kept middle k answer offers c found is = ap (λ (v : View). find number_of k v.upstreams.live) is ∙ answered_found k answer kept.upstreams.live c found
 
 -- it is open still
@@ -110,43 +110,3 @@ verdict_else true None is = let no : true ≡ false = is in cc
 verdict_else true (Some h) is = refl
 verdict_else false None is = refl
 verdict_else false (Some h) is = refl
-
--- ---- none is done with then
-
-pub taken_none : (kept : View) (k : ℕ) (octets : List ℕ) (h : Told) (middle : View) → NoneDone kept → AreTaken kept k octets h middle → NoneDone middle
-taken_none kept k octets h middle none taken = answered_none kept middle k (left_of h taken.answer) taken.offers taken.is none
-
-pub taken_finished_none : (kept : View) (most k : ℕ) (octets : List ℕ) (h : Told) (w : Heard) (middle new : View) → NoneDone kept → AreTaken kept k octets h middle → new ≡ finished_at most k w middle → NoneDone new
-taken_finished_none kept most k octets h w middle new none taken is =
-    subst NoneDone (sym is) (finished_none most k w middle (answer_at k (left_of h taken.answer) taken.connection) (found_then kept middle k (left_of h taken.answer) taken.offers taken.connection taken.found taken.is) (taken_none kept k octets h middle none taken))
-
-pub end_finished_none : (kept : View) (k : ℕ) (middle new : View) → NoneDone kept → IsEndTaken kept k ended.Complete middle → new ≡ finished_at 0 k Finished middle → NoneDone new
-end_finished_none kept k middle new none taken is =
-    subst NoneDone (sym is)
-    (finished_none 0 k Finished middle (answer_at k (fresh false Streaming) taken.connection) (found_then kept middle k (fresh false Streaming) taken.offers taken.connection taken.found taken.is)
-    (answered_none kept middle k (fresh false Streaming) taken.offers taken.is none))
-
--- ---- nothing but connections changes
-
-pub finished_offers : (most k : ℕ) (w : Heard) (middle new : View) → new ≡ finished_at most k w middle → new.offers ≡ middle.offers
-finished_offers most k w middle new is = ap (λ (v : View). v.offers) is ∙ by (is_idle_then most k w middle)
-  where
-    by : (b : Bool) → (closed_unless b k (marked_as most k w middle)).offers ≡ middle.offers
-    by true = refl
-    by false = refl
-
-pub finished_inbound : (most k : ℕ) (w : Heard) (middle new : View) → new ≡ finished_at most k w middle → new.inbound ≡ middle.inbound
-finished_inbound most k w middle new is = ap (λ (v : View). v.inbound) is ∙ by (is_idle_then most k w middle)
-  where
-    by : (b : Bool) → (closed_unless b k (marked_as most k w middle)).inbound ≡ middle.inbound
-    by true = refl
-    by false = refl
-
--- and not even those where octets of an idle one are none
-pub closed_by_offers : (octets : List ℕ) (k : ℕ) (kept : View) → (closed_by octets k kept).offers ≡ kept.offers
-closed_by_offers [] k kept = refl
-closed_by_offers (octet ∷ octets) k kept = refl
-
-pub closed_by_inbound : (octets : List ℕ) (k : ℕ) (kept : View) → (closed_by octets k kept).inbound ≡ kept.inbound
-closed_by_inbound [] k kept = refl
-closed_by_inbound (octet ∷ octets) k kept = refl

@@ -22,7 +22,7 @@ use Rattle.upstream_connections.specs.Connections.{Connection, number_of, marked
 use Rattle.theory.specs.Moves.{idled}
 use Rattle.theory.specs.Coming.{MayBreakOff}
 use Rattle.refinement.specs.View.{View, balanced}
-use Rattle.refinement.specs.Rest.{IsAtRest, NoneDone, told_view}
+use Rattle.refinement.specs.Rest.{IsAtRest, told_view}
 use Rattle.refinement.specs.Bringing.{Brings}
 use Rattle.refinement.proofs.Bringing.{brings_then}
 use Rattle.refinement.proofs.Idled as relayed
@@ -31,13 +31,7 @@ use Rattle.refinement.proofs.Lives.{IsDone}
 use Rattle.event_handlers.specs.exchanges.Giving.{closed_at}
 use Rattle.event_handlers.specs.exchanges.Finishing.{closed_by, put_closed_by, marked_as}
 use Rattle.event_handlers.proofs.exchanges.Brings.{octets_come}
-use Rattle.event_handlers.proofs.exchanges.Done.{closed_none_done}
 use Rattle.event_handlers.proofs.paying.Closes.{closes}
-
--- None is done with behind octets of it.
-pub closed_by_none : (octets : List ℕ) (k : ℕ) (kept : View) → NoneDone kept → NoneDone (closed_by octets k kept)
-closed_by_none [] k kept none = none
-closed_by_none (octet ∷ octets) k kept none = closed_none_done k kept none
 
 module _ (setup : Setup) (kept : View) (rest : IsAtRest kept) (k : ℕ) (c : Connection) (found : find number_of k kept.upstreams.live ≡ Some c) (is_idle : c.live.answer ≡ Idle) (outputs : List Output) where
   -- it is done with, and closed

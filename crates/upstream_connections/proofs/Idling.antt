@@ -9,9 +9,9 @@ use Rattle.theory_requests.specs.Lines.{Line, Heard, find, without, is_idle, idl
 use Rattle.theory_requests.specs.Lines.Answer.{Pending, Idle, Done}
 use Rattle.theory_requests.specs.Lines.Heard.{Partly, Keepable, Finished}
 use Rattle.theory_requests.proofs.Lists.{found_key, find_gone, find_map}
-use Rattle.upstream_connections.specs.Connections.{Connection, number_of, lives, is_idle_one, idle_count, idle_numbers, others, among, marked_at, given_at, AreBelow}
+use Rattle.upstream_connections.specs.Connections.{Connection, number_of, lives, is_idle_one, idle_count, idle_numbers, Rise, others, among, marked_at, given_at, AreBelow}
 use Rattle.upstream_connections.proofs.Openings.{weaker, below_changed}
-use Rattle.upstream_connections.proofs.Numbers.{others_turned, among_before, among_last, AreUnder, under_more}
+use Rattle.upstream_connections.proofs.Numbers.{AreUnder, rise_more, others_turned, among_before, among_last, under_more}
 
 -- ---- beside one
 
@@ -141,6 +141,15 @@ under_idle k top (c ∷ cs) le below = by (is_idle c.live.answer) (under_idle k 
     by true rest = subst (AreUnder k) (sym (reverse-append (c.live.k ∷ []) (idle_in cs))) (under_more k c.live.k (reverse (idle_in cs)) (let low = below.0 in omega (arith, low, le)) rest)
     by false rest = rest
 
+-- they rise
+rise_idle : (top : ℕ) (cs : List Connection) → AreBelow top cs → Rise (reverse (idle_in cs))
+rise_idle top [] below = λ i j d lt within. absurd (omega (arith, within))
+rise_idle top (c ∷ cs) below = by (is_idle c.live.answer) (rise_idle c.live.k cs below.1)
+  where
+    by : (b : Bool) → Rise (reverse (idle_in cs)) → Rise (reverse (more b c.live.k (idle_in cs)))
+    by true rest = subst Rise (sym (reverse-append (c.live.k ∷ []) (idle_in cs))) (rise_more c.live.k (reverse (idle_in cs)) (under_idle c.live.k c.live.k cs (omega arith) below.1) rest)
+    by false rest = rest
+
 -- one that is idle stands among the others
 among_others : (k top : ℕ) (cs : List Connection) → AreBelow top cs → is_idle_one (find number_of k cs) ≡ true → reverse (idle_in cs) ≡ among k (reverse (beside k cs))
 among_others k top [] below is = absurd (false≢true is)
@@ -202,6 +211,10 @@ heard_room most k n heard cs is = by (find number_of k cs) (sym (marked_idle k (
     by (Some c) i = fits heard i
 
 -- ---- as they lie
+
+-- their numbers rise
+pub idle_rise : (cs : List Connection) (idle : List ℕ) → idle ≡ idle_numbers cs → (top : ℕ) → AreBelow top (reverse cs) → Rise idle
+idle_rise cs idle are top below = subst Rise (sym are) (rise_idle top (reverse cs) below)
 
 module _ (old new : List Connection) (idle : List ℕ) (were : idle ≡ idle_numbers old) where
   -- where the lines stay as they are

@@ -1,11 +1,37 @@
 -- Numbers that rise: without one, with one among them, and the first that passes a test.
-use Rattle.std.proofs.Common.{◌≡◌, ℕ, ◌<◌, ◌≤◌, ◌==◌, nat_lt, if◌then◌else◌, Bool, true, false, not, List, [], ◌∷◌, ◌++◌, length, get_or, drop, Some, None, refl, sym, ap, ◌∙◌, drop-cons, arith}
+use Rattle.std.proofs.Common.{◌≡◌, ℕ, ◌<◌, ◌≤◌, ◌==◌, nat_lt, if◌then◌else◌, Bool, true, false, not, List, [], ◌∷◌, ◌++◌, length, get_or, drop, Some, None, refl, sym, ap, ◌∙◌, subst, inl, inr, drop-cons, arith}
 use Rattle.std.specs.Prelude.{Option, zero, suc, reverse}
-use Rattle.std.specs.List.{insert}
-use Rattle.std.proofs.lemmas.Bool.{lt-ltb, le-ltb}
+use Rattle.std.specs.List.{insert, remove}
+use Rattle.std.proofs.lemmas.Bool.{lt-ltb, le-ltb, eq-eqb, ne_eqb, cases_lt}
 use Rattle.std.proofs.lemmas.List.{reverse-append, append-nil}
-use Rattle.std.proofs.lemmas.List.Elements.{filter-append}
-use Rattle.upstream_connections.specs.Connections.{others, among}
+use Rattle.std.proofs.lemmas.List.Elements.{filter-append, All-push}
+use Rattle.std.proofs.lemmas.List.Kept.{AllPairs-cons, AllPairs-filter}
+use Rattle.upstream_connections.specs.Connections.{others, among, Rise}
+
+-- ---- that rise
+
+pub tail_rises : (x : ℕ) (xs : List ℕ) → Rise (x ∷ xs) → Rise xs
+tail_rises x xs rise i j d lt within = rise (suc i) (suc j) d (omega (arith, lt)) (omega (arith, within))
+
+-- as a search by halves asks
+pub none_falls : (xs : List ℕ) → Rise xs → (i j : ℕ) → i ≤ j → j < length xs → get_or xs i 0 ≤ get_or xs j 0
+none_falls xs rise i j le within = elim (cases_lt i j) [
+  | inl less ↦ (let low : get_or xs i 0 < get_or xs j 0 = rise i j 0 less within in omega (arith, low))
+  | inr from ↦ (let same : i ≡ j = omega (arith, le, from) in subst (λ n. get_or xs i 0 ≤ get_or xs n 0) same (omega arith))
+]
+
+-- Each is less than this.
+abbrev pub AreUnder : ℕ → List ℕ → Type 0
+AreUnder k [] = Unit {0}
+AreUnder k (x ∷ xs) = (x < k) × AreUnder k xs
+
+-- they still do with one behind them that is greater
+pub rise_more : (y : ℕ) (xs : List ℕ) → AreUnder y xs → Rise xs → Rise (xs ++ y ∷ [])
+rise_more y [] under rise = λ i j d lt within. absurd (omega (arith, lt, within))
+rise_more y (x ∷ xs) under rise =
+    AllPairs-cons (λ j k. j < k) x (xs ++ y ∷ [])
+    (All-push (λ k. x < k) xs y (λ j d within. rise 0 (suc j) d (omega arith) (omega (arith, within))) under.0)
+    (rise_more y xs under.1 (tail_rises x xs rise))
 
 -- ---- without one
 
@@ -22,6 +48,28 @@ others_turned k (x ∷ xs) =
     by true = sym (reverse-append (x ∷ []) (others k xs))
     by false = append-nil (reverse (others k xs))
 
+-- and those that are left rise
+pub others_rise : (k : ℕ) (xs : List ℕ) → Rise xs → Rise (others k xs)
+others_rise k xs rise = AllPairs-filter (λ i j. i < j) (λ j. not (j == k)) xs rise
+
+-- all are left where none is it
+pub not_there : (k : ℕ) (xs : List ℕ) → ((i : ℕ) → i < length xs → get_or xs i 0 ≡ k → ⊥) → xs ≡ others k xs
+not_there k [] apart = refl
+not_there k (x ∷ xs) apart =
+    ap (λ ys. x ∷ ys) (not_there k xs (λ i lt. apart (suc i) (omega (arith, lt))))
+    ∙ sym (ap (λ b. if not b then x ∷ others k xs else others k xs) (ne_eqb x k (apart 0 (omega arith))))
+
+-- where they rise one place has it, and no other
+pub struck : (k : ℕ) (xs : List ℕ) (place : ℕ) → Rise xs → place < length xs → get_or xs place 0 ≡ k → remove xs place ≡ others k xs
+struck k [] place rise lt same = absurd (omega (arith, lt))
+struck k (x ∷ xs) zero rise lt same =
+    not_there k xs (λ i within is. let less : x < get_or xs i 0 = rise 0 (suc i) 0 (omega arith) (omega (arith, within)) in omega (arith, less, is, same))
+    ∙ sym (ap (λ b. if not b then x ∷ others k xs else others k xs) (eq-eqb x k same))
+struck k (x ∷ xs) (suc place) rise lt same =
+    ap (λ ys. x ∷ ys) (struck k xs place (tail_rises x xs rise) (omega (arith, lt)) same)
+    ∙ sym (ap (λ b. if not b then x ∷ others k xs else others k xs)
+    (ne_eqb x k (let less : x < get_or xs place 0 = rise 0 (suc place) 0 (omega arith) lt in λ is. omega (arith, less, is, same))))
+
 -- ---- with one among them
 
 -- one that is greater stays behind it
@@ -32,11 +80,6 @@ among_before k y (x ∷ xs) lt = by (nat_lt x k) (among_before k y xs lt)
     by : (b : Bool) → among k (xs ++ y ∷ []) ≡ among k xs ++ y ∷ [] → (if b then x ∷ among k (xs ++ y ∷ []) else k ∷ x ∷ xs ++ y ∷ []) ≡ (if b then x ∷ among k xs else k ∷ x ∷ xs) ++ y ∷ []
     by true rest = ap (λ ys. x ∷ ys) rest
     by false rest = refl
-
--- Each is less than this.
-abbrev pub AreUnder : ℕ → List ℕ → Type 0
-AreUnder k [] = Unit {0}
-AreUnder k (x ∷ xs) = (x < k) × AreUnder k xs
 
 pub under_more : (k y : ℕ) (xs : List ℕ) → y < k → AreUnder k xs → AreUnder k (xs ++ y ∷ [])
 under_more k y [] lt under = (lt, tt)

@@ -1,6 +1,7 @@
 -- Open connections.
 use Rattle.std.specs.Prelude.{ℕ, nat_lt, suc, ◌+◌, ◌<◌, ◌==◌, ◌^◌, Bool, false, not, ◌&&◌, if◌then◌else◌, List, []}
 use Rattle.std.specs.Prelude.{◌∷◌, map, filter, length, reverse, Option, Some, None}
+use Rattle.std.specs.List.{AllPairs}
 use Rattle.h1_reader.specs.declared.reader.Place.TheVariants as place
 use Rattle.upstream_response.specs.Waiting.{Answer}
 use Rattle.upstream_response.specs.declared.answer.ResponsePassing.{ResponsePassing}
@@ -101,6 +102,10 @@ idle_count cs = length (idle_ones (lives cs))
 -- the numbers of those that are idle, by rising number, where the connections stand with the oldest first
 abbrev pub idle_numbers : List Connection → List ℕ
 idle_numbers cs = reverse (idle_ones (lives (reverse cs)))
+
+-- Numbers rise: each is less than all that stand behind it.
+abbrev pub Rise : List ℕ → Type 0
+Rise ks = AllPairs (λ j k. j < k) ks
 
 -- numbers but this one
 abbrev pub others : ℕ → List ℕ → List ℕ

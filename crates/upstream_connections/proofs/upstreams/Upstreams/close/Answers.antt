@@ -4,8 +4,11 @@ use Rattle.theory_requests.specs.Held.{AreApart}
 use Rattle.upstream_connections.specs.Connections.{AreBelow}
 use Rattle.upstream_connections.proofs.Requests.{apart_dropped}
 use Rattle.upstream_connections.proofs.Openings.{below_without}
-use Rattle.upstream_connections.proofs.Idling.{idle_closed}
+use Rattle.upstream_connections.proofs.Idling.{idle_rise, idle_closed}
 use Rattle.upstream_connections.proofs.upstreams.Upstreams.close.Goals as goal
+
+pub strike-requires : goal.strike-requires
+strike-requires c = idle_rise c.self.inside.connections.items c.self.inside.idle.items c.self.invariant.idle_are (suc c.self.inside.count) c.self.invariant.below
 
 pub invariant_of-self : goal.invariant_of-self
 invariant_of-self c = record {

@@ -7,8 +7,11 @@ use Rattle.theory_requests.proofs.Served.{apart_with}
 use Rattle.upstream_connections.specs.Connections.{AreBelow, given_at}
 use Rattle.upstream_connections.specs.Requests.{stage_of}
 use Rattle.upstream_connections.proofs.Openings.{below_changed}
-use Rattle.upstream_connections.proofs.Idling.{idle_given}
+use Rattle.upstream_connections.proofs.Idling.{idle_rise, idle_given}
 use Rattle.upstream_connections.proofs.upstreams.Upstreams.give.Goals as goal
+
+pub strike-requires : goal.strike-requires
+strike-requires c = idle_rise c.self.inside.connections.items c.self.inside.idle.items c.self.invariant.idle_are (suc c.self.inside.count) c.self.invariant.below
 
 pub invariant_of-self-2 : goal.invariant_of-self-2
 invariant_of-self-2 c = record {

@@ -1,15 +1,24 @@
 use Rattle.std.proofs.Common.{◌≡◌, ◌<◌, List, true, length, refl, sym, ◌∙◌, ap, subst, arith}
 use Rattle.std.specs.Prelude.{suc, reverse, map}
 use Rattle.theory_requests.specs.Lines.{find, idle_beside, answer_by}
-use Rattle.upstream_connections.specs.Connections.{Connection, number_of, AreBelow, lives, marked_at, is_idle_one, among}
+use Rattle.upstream_connections.specs.Connections.{Connection, number_of, AreBelow, lives, marked_at, is_idle_one, Rise, among}
 use Rattle.upstream_connections.specs.Kept.{State}
 use Rattle.upstream_connections.specs.Progress.{answer_of, heard_of}
 use Rattle.upstream_connections.proofs.Openings.{below_changed}
-use Rattle.upstream_connections.proofs.Idling.{count_beside, heard_room, idle_struck, idle_entered}
+use Rattle.upstream_connections.proofs.Numbers.{others_rise}
+use Rattle.upstream_connections.proofs.Idling.{idle_rise, count_beside, heard_room, idle_struck, idle_entered}
 use Rattle.upstream_connections.proofs.upstreams.Upstreams.mark_heard.Goals as goal
 
-pub enter-requires : goal.enter-requires
-enter-requires c =
+pub strike-requires : goal.strike-requires
+strike-requires c = idle_rise c.self.inside.connections.items c.self.inside.idle.items c.self.invariant.idle_are (suc c.self.inside.count) c.self.invariant.below
+
+pub enter-requires-clause-rising : goal.enter-requires-clause-rising
+enter-requires-clause-rising c =
+    subst Rise (sym c.strike.ensures)
+    (others_rise c.args.k c.self.inside.idle.items (idle_rise c.self.inside.connections.items c.self.inside.idle.items c.self.invariant.idle_are (suc c.self.inside.count) c.self.invariant.below))
+
+pub enter-requires-clause-room : goal.enter-requires-clause-room
+enter-requires-clause-room c =
     let old = c.self.inside.connections.items in
     let changed : reverse c.mark.new.connections.items ≡ map (marked_at c.args.k (answer_by c.args.most_idle c.len.result (heard_of c.args.verdict))) (reverse old) =
     c.mark.ensures.marked ∙ ap (λ a. map (marked_at c.args.k a) (reverse old)) c.progress-progress.ensures in

@@ -4,7 +4,7 @@ ghost use Rattle.std.specs.Prelude.{◌≡◌, ◌+◌, ◌<◌, ◌≤◌, [], 
 ghost use Rattle.model.specs.Http2.{HasLength};
 ghost use Rattle.model.specs.Limits.{most_streams};
 ghost use Rattle.h1_reader.specs.Standing.{Stands};
-ghost use Rattle.theory_requests.specs.Lines.{find, without, least_idle};
+ghost use Rattle.theory_requests.specs.Lines.{find, without, least_idle, idle_ones};
 ghost use Rattle.theory_requests.specs.State.{id_of, held_of, drop_from};
 ghost use Rattle.theory_requests.specs.State.Due.{ToOpen};
 ghost use Rattle.upstream_connections.specs.Requests.{stage_of, due_for, due_by, on_idle, MayTakeOf, Takes};
@@ -202,6 +202,13 @@ impl Upstreams {
         ensures { result ≡ least_idle route (lives self.now.live) }
     {
         connections::least_idle(&self.connections, self.idle.as_slice(), route)
+    }
+
+    /// The numbers of the connections that are idle, by rising number.
+    pub fn idle(&self) -> &[u32]
+        ensures { result.now ≡ reverse (idle_ones (lives self.now.live)) }
+    {
+        self.idle.as_slice()
     }
 
     /// An open connection, which is idle, is given to a stream, whose request's method is HEAD or

@@ -1,4 +1,5 @@
--- How many octets lie in an answer. The count takes the struct apart by the names of all its fields: what lies in one field more has to be counted here.
+-- How many octets lie in an answer. The count takes the struct apart by the names of all its fields, and counts each by its type: what lies in one field
+-- more has to be counted here.
 use Rattle.std.specs.Prelude.{ℕ, ◌+◌, length, Option, Some, None}
 use Rattle.model.specs.ResponseHeads.{Head}
 use Rattle.h1_reader.specs.HeadSizes.{field_octets}
@@ -6,6 +7,11 @@ use Rattle.theory_responses.specs.Held.{head_octets, octets_of_fields}
 use Rattle.theory_responses.specs.Outbox.{trailers_at}
 use Rattle.upstream_response.specs.Waiting.{Answer}
 use Rattle.upstream_response.specs.declared.answer.Answer.TheInside.{Inside}
+use Rattle.upstream_response.specs.declared.answer.ResponsePassing.{ResponsePassing}
+
+-- none in how a response is passed on, which has a number at most
+abbrev pub in_passing : ResponsePassing → ℕ
+in_passing passing = 0
 
 -- the octets of a head that waits, if one does
 abbrev pub head_waiting : Option Head → ℕ
@@ -22,4 +28,5 @@ octets_of answer =
 -- those that lie in it
 abbrev pub in_answer : Inside → ℕ
 in_answer = λ record { alloc = alloc; reader = reader; passing = passing; head = head; body = body; trailers = trailers }.
-    length reader.held.octets + field_octets reader.held.connections + head_waiting head + length body.items + octets_of_fields (trailers_at trailers)
+    in_passing passing + length reader.held.octets + field_octets reader.held.connections + head_waiting head + length body.items
+    + octets_of_fields (trailers_at trailers)

@@ -1,0 +1,5 @@
+pub mod Texts
+pub mod Streams
+pub mod Sent
+pub mod Fronts
+mod Examples

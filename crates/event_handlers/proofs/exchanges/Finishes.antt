@@ -1,5 +1,5 @@
 -- A response is whole with octets, or with the end of its connection, which is idle then, or closed: what the calls come to.
-use Rattle.std.proofs.Common.{◌≡◌, ℕ, ◌≤◌, Bool, true, false, not, ◌&&◌, if◌then◌else◌, List, length, Some, None, refl, sym, ◌∙◌, ap}
+use Rattle.std.proofs.Common.{◌≡◌, ℕ, ◌≤◌, Bool, true, false, not, ◌&&◌, if◌then◌else◌, List, length, Some, None, refl, sym, ◌∙◌, ap, subst}
 use Rattle.std.specs.Prelude.{Option, IfSome, is_some, option_map}
 use Rattle.model.specs.Logs.{Output}
 use Rattle.model.specs.Logs.Event.{Up, UpEnd}

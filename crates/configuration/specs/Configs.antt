@@ -9,12 +9,12 @@ use Rattle.configuration.specs.declared.faults.Key.TheVariants as key
 use Rattle.configuration.specs.declared.faults.ConfigFault.{ConfigFault}
 use Rattle.configuration.specs.declared.faults.ConfigFault.TheVariants.{NotToml, Bad, UnknownKey, Memory}
 use Rattle.configuration.specs.Lines.{name_of}
-use Rattle.configuration.specs.Keys.{text_at, number_at, bool_at, array_at, IsPolicy, IsPassing, IsMost, IsKeep}
+use Rattle.configuration.specs.Keys.{text_at, number_at, bool_at, array_at, IsPolicy, IsPassing, IsMost, IsKeep, IsIdle}
 use Rattle.configuration.specs.Keys.{AreTables, IsAuthority, IsPrefix, IsUpstream, IsRight}
 
 -- The keys in the order in which they are judged: those of the whole table, and those of each route.
 abbrev pub table_keys : List Key
-table_keys = key.Policy ∷ key.Passing ∷ key.MaxBody ∷ key.MaxResponse ∷ key.Keep ∷ key.Route ∷ []
+table_keys = key.Policy ∷ key.Passing ∷ key.MaxBody ∷ key.MaxResponse ∷ key.Keep ∷ key.Idle ∷ key.Route ∷ []
 
 abbrev pub route_keys : List Key
 route_keys = key.Authority ∷ key.Prefix ∷ key.Upstream ∷ []
@@ -59,8 +59,7 @@ pub record IsConfig (entries : Members) (config : Config) : Type 0 where
   pub max_body : IsMost (number_at (codes "max_body") entries) config.max_body
   pub max_response : IsMost (number_at (codes "max_response") entries) config.max_response
   pub keep : IsKeep (bool_at (codes "keep") entries) config.keep
-  -- no key says yet how many connections may be idle
-  pub most_idle : config.most_idle ≡ 8
+  pub idle : IsIdle (number_at (codes "idle") entries) config.idle
   pub tables : List Members
   pub are_tables : AreTables (array_at (codes "route") entries) tables
   pub routes : AreRoutes tables config.routes.items

@@ -58,6 +58,11 @@ abbrev pub IsKeep : Option (Option Bool) → Bool → Type 0
 IsKeep None keep = keep ≡ false
 IsKeep (Some value) keep = value ≡ Some keep
 
+-- `idle`: 0 to 100, and 8 by default.
+abbrev pub IsIdle : Option (Option ℤ) → ℕ → Type 0
+IsIdle None idle = idle ≡ 8
+IsIdle (Some number) idle = (number ≡ Some (pos idle)) × (idle ≤ 100)
+
 -- `route`: an array of tables, and none by default. A route's place is a number of 32 bits, so there are at most 4,294,967,295.
 abbrev pub AreTables : Option (Option Items) → List Members → Type 0
 AreTables None tables = tables ≡ []
@@ -83,6 +88,7 @@ IsRight entries key.Passing = (passing : Passing) × IsPassing (text_at (codes "
 IsRight entries key.MaxBody = (most : ℕ) × IsMost (number_at (codes "max_body") entries) most
 IsRight entries key.MaxResponse = (most : ℕ) × IsMost (number_at (codes "max_response") entries) most
 IsRight entries key.Keep = (keep : Bool) × IsKeep (bool_at (codes "keep") entries) keep
+IsRight entries key.Idle = (idle : ℕ) × IsIdle (number_at (codes "idle") entries) idle
 IsRight entries key.Route = (tables : List Members) × AreTables (array_at (codes "route") entries) tables
 IsRight entries key.Authority = (authority : List ℕ) × IsAuthority (text_at (codes "authority") entries) authority
 IsRight entries key.Prefix = (prefix : List ℕ) × IsPrefix (text_at (codes "prefix") entries) prefix

@@ -20,6 +20,8 @@ pub enum Key {
     MaxResponse,
     /// Whether upstream connections are kept.
     Keep,
+    /// How many of them may be idle.
+    Idle,
     /// The routes.
     Route,
     /// The authority of a route's requests.
@@ -56,6 +58,7 @@ impl ConfigFault {
             ConfigFault::Bad(Key::MaxBody) => "config: bad max_body",
             ConfigFault::Bad(Key::MaxResponse) => "config: bad max_response",
             ConfigFault::Bad(Key::Keep) => "config: bad keep",
+            ConfigFault::Bad(Key::Idle) => "config: bad idle",
             ConfigFault::Bad(Key::Route) => "config: bad route",
             ConfigFault::Bad(Key::Authority) => "config: bad authority",
             ConfigFault::Bad(Key::Prefix) => "config: bad prefix",

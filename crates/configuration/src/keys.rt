@@ -5,7 +5,7 @@ ghost use Rattle.std.specs.List.{list_all};
 ghost use Rattle.toml.specs.Data.{Members, get_member, as_table, table as as_data};
 ghost use Rattle.toml.specs.View.{view, table_view};
 ghost use Rattle.configuration.specs.Keys.{text_at as the_text, number_at as the_number, bool_at as the_bool, IsPolicy};
-ghost use Rattle.configuration.specs.Keys.{IsPassing, IsMost, IsKeep, IsAuthority, IsPrefix, IsUpstream, array_at};
+ghost use Rattle.configuration.specs.Keys.{IsPassing, IsMost, IsKeep, IsIdle, IsAuthority, IsPrefix, IsUpstream, array_at};
 ghost use Rattle.configuration.specs.Keys.{AreTables, Lacks};
 
 use gateway::{Passing, Policy};
@@ -96,6 +96,20 @@ pub fn keep_in(table: &Table) -> Option<bool>
     match bool_at(table, "keep") {
         None => Some(false),
         Some(keep) => keep,
+    }
+}
+
+/// How many upstream connections may be idle.
+pub fn idle_in(table: &Table) -> Option<u8>
+    ensures { MatchOption result (Lacks (IsIdle (the_number (codes "idle") (table_view table.now))))
+        (IsIdle (the_number (codes "idle") (table_view table.now))) }
+{
+    match number_at(table, "idle") {
+        None => Some(8),
+        Some(number) => match u8::try_from(number?) {
+            Ok(idle) if idle <= 100 => Some(idle),
+            _ => None,
+        },
     }
 }
 

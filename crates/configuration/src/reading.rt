@@ -12,7 +12,8 @@ ghost use Rattle.configuration.specs.Steps.{IsNoRoute, AreNoRoutes, is_only};
 
 use crate::faults::{ConfigFault, Key};
 use crate::keys::{
-    authority_in, keep_in, most_in, passing_in, policy_in, prefix_in, routes_in, upstream_in,
+    authority_in, idle_in, keep_in, most_in, passing_in, policy_in, prefix_in, routes_in,
+    upstream_in,
 };
 use gateway::{Config, Route};
 use std::alloc::Global;
@@ -27,6 +28,8 @@ use toml::{Table, Value};
 ///   bodies are passed on whole: 0 to 1,073,741,824, and 1,048,576 by default.
 /// - `keep`, whether upstream connections are kept for further requests: `false`, the default, or
 ///   `true`.
+/// - `idle`, how many of them may be idle at once, beside those that serve a request: 0 to 100, and
+///   8 by default. With 0 each is closed behind its response.
 /// - `route`, an array of at most 4,294,967,295 tables, none by default, each with
 ///   - `authority`, that of the requests: a text, empty by default, which is any authority;
 ///   - `prefix`, what their paths begin with: a text that begins with `/`;
@@ -73,6 +76,9 @@ fn read_table(alloc: Global, table: &Table) -> Result<Config, ConfigFault>
     let Some(keep) = keep_in(table) else {
         return Err(ConfigFault::Bad(Key::Keep));
     };
+    let Some(idle) = idle_in(table) else {
+        return Err(ConfigFault::Bad(Key::Idle));
+    };
     let Some(values) = routes_in(table) else {
         return Err(ConfigFault::Bad(Key::Route));
     };
@@ -93,7 +99,7 @@ fn read_table(alloc: Global, table: &Table) -> Result<Config, ConfigFault>
         max_body,
         max_response,
         keep,
-        most_idle: 8,
+        idle,
     })
 }
 
@@ -142,7 +148,7 @@ fn is_table_key(name: &str) -> bool
 {
     matches!(
         name,
-        "policy" | "passing" | "max_body" | "max_response" | "keep" | "route"
+        "policy" | "passing" | "max_body" | "max_response" | "keep" | "idle" | "route"
     )
 }
 

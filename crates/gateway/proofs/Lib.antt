@@ -13,3 +13,5 @@ pub mod Sizes
 pub mod Rooms
 pub mod Joined
 pub mod Octets
+pub mod HeldInside
+pub mod Idle

@@ -199,7 +199,7 @@ turns_put (Does (ToUp j b) ∷ outs) (Does CloseClient) = refl
 turns_put (Does (Close j) ∷ outs) (Does CloseClient) = refl
 turns_put (Does CloseClient ∷ outs) (Does CloseClient) = refl
 
-any_turned : {X : Type 0} (p : X → Bool) (xs : List X) → list_any p (reverse xs) ≡ list_any p xs
+pub any_turned : {X : Type 0} (p : X → Bool) (xs : List X) → list_any p (reverse xs) ≡ list_any p xs
 any_turned p [] = refl
 any_turned p (x ∷ xs) =
     ap (list_any p) (reverse-append (x ∷ []) xs) ∙ list_any-append p (reverse xs) (x ∷ []) ∙ or_turned (list_any p (reverse xs)) (p x) ∙ ap (λ b. p x || b) (any_turned p xs)

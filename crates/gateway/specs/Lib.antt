@@ -5,6 +5,7 @@ pub mod Receiving
 pub mod Promises
 pub mod Runs
 pub mod Held
+pub mod HeldInside
 pub mod Rooms
 pub use Rattle.effects.specs.Views
 pub use Rattle.model.specs.Logs

@@ -2,6 +2,7 @@
 use Rattle.std.specs.Prelude.{◌≡◌, ℕ, ◌<◌, ◌==◌, Bool, true, false, List, [], ◌∷◌, map, reverse, Some, if◌then◌else◌}
 use Rattle.std.specs.List.{list_any, AllByRecursion}
 use Rattle.model.specs.Admission as admission
+use Rattle.model.specs.Idle.{IsIdle, AreIdle}
 use Rattle.model.specs.Known.{Known}
 use Rattle.model.specs.Logs.{Event, Output}
 use Rattle.model.specs.Logs.Event.{Client, ClientEnd, ClientTook, Up, UpEnd, UpFailed, UpTook}
@@ -41,6 +42,11 @@ pub record AreRooms (known : Known) (t : List Entry) (rooms : List (ℕ × ℕ))
   pub rise : Rise (numbers_in rooms)
   pub listed : (k : ℕ) → is_among k (numbers_in rooms) ≡ admission.is_open k t
   pub each : AllByRecursion (λ (one : ℕ × ℕ). IsRoom known.setup.passing known one.0 t one.1) rooms
+
+-- The connections that are idle behind the tape, and no others.
+pub record AreAllIdle (known : Known) (t : List Entry) (idle : List ℕ) : Type 0 where
+  pub each : AreIdle known t idle
+  pub all : (k : ℕ) → IsIdle known t k → is_among k idle ≡ true
 
 -- those that a gateway tells, by what is on offer
 abbrev pub room_in : theory_responses.State → Connection → ℕ × ℕ

@@ -28,7 +28,7 @@ setup_of config = record {
   max_body = config.max_body;
   max_response = config.max_response;
   keep = config.keep;
-  most_idle = config.most_idle;
+  most_idle = config.idle;
 }
 
 -- What a gateway can be set up with: maxima within their limits, and no more routes than have a number.

@@ -56,8 +56,9 @@ pub struct Config {
     pub max_response: u64,
     /// Whether upstream connections are kept for further requests (RFC 9112, section 9.3).
     pub keep: bool,
-    /// The most of them that are idle at once.
-    pub most_idle: u8,
+    /// The most of them that are idle at once, beside those that serve a request. With none each
+    /// is closed behind its response.
+    pub idle: u8,
 }
 
 impl Config {
@@ -66,7 +67,7 @@ impl Config {
     /// have at most 1,048,576 octets, and no upstream connection is kept. Where they are, eight may
     /// be idle.
     pub fn new(routes: Vec<Route>) -> Config
-        ensures { result ≡ record { routes = routes; policy = Plain; passing = Whole; max_body = 1048576; max_response = 1048576; keep = false; most_idle = 8 } }
+        ensures { result ≡ record { routes = routes; policy = Plain; passing = Whole; max_body = 1048576; max_response = 1048576; keep = false; idle = 8 } }
     {
         Config {
             routes,
@@ -75,7 +76,7 @@ impl Config {
             max_body: 1_048_576,
             max_response: 1_048_576,
             keep: false,
-            most_idle: 8,
+            idle: 8,
         }
     }
 

@@ -22,7 +22,7 @@ ghost use Rattle.refinement.specs.Rest.{Reached};
 ghost use Rattle.event_handlers.specs.Resting.{IsSettled};
 ghost use Rattle.theory_memory_bound.specs.Held.{IsSmall, held_in as held_in_session};
 ghost use Rattle.gateway.specs.Held.{IsHeldWithin, held_in};
-ghost use Rattle.gateway.specs.Rooms.{TellsRoom, AreRooms, room_in, rooms_in, turns, fails};
+ghost use Rattle.gateway.specs.Rooms.{TellsRoom, AreRooms, AreAllIdle, room_in, rooms_in, turns, fails};
 ghost use Rattle.gateway.specs.Setups.{setup_of, IsServable};
 ghost use Rattle.gateway.specs.Stands.{IsFresh, Serves, Stands, StandsNext, admits, room_of, opened_in, is_dead, is_open};
 ghost use Rattle.gateway.specs.Receiving.{Receives, ReadsOn, Happens, Greets, KeepsTerms, IsSettledIf, is_begun};
@@ -205,7 +205,7 @@ impl Gateway {
             max_body: config.max_body,
             passing: config.passing_on(),
             keep: config.keep,
-            most_idle: config.most_idle,
+            most_idle: config.idle,
             phase: Phase::New,
             partial: Vec::new(alloc),
             session: Session {
@@ -380,6 +380,19 @@ impl Gateway {
             return Ok(());
         }
         self.list_rooms(rooms)
+    }
+
+    /// The numbers of the connections to upstreams that are idle: none once the client is closed, or
+    /// memory was refused.
+    pub fn idle(&self) -> &[u32]
+        // They are those that the log tells that the gateway stands for.
+        ensures { (setup : Setup) (log : List Step) (run : List Move) → Stands setup self.now log run
+            → AreAllIdle (known_of setup (conducts run)) (tape_of run) result.now }
+    {
+        if !self.is_open() {
+            return &[];
+        }
+        self.session.upstreams.idle()
     }
 
     /// Takes an event that may come, and puts out at the end of `out` all that it causes. A refused

@@ -14,6 +14,7 @@ ghost use Rattle.gateway.specs.Stands.{Standing, Stands, is_open};
 
 mod config;
 mod gateway;
+pub mod laws;
 mod phase;
 mod preface;
 mod reading;

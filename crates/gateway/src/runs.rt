@@ -3,6 +3,7 @@
 ghost use Rattle.std.specs.Prelude.{◌≡◌, [], length, map, IfOk, IfErr, OnOk};
 ghost use Rattle.model.specs.Setup.{Setup};
 ghost use Rattle.effects.specs.Views.{event_of};
+ghost use Rattle.nothing_smuggled.specs.Smuggling.{NothingSmuggled};
 ghost use Rattle.gateway.specs.Promises.{Promise};
 ghost use Rattle.gateway.specs.Runs.{log_of, Explains, Stops};
 ghost use Rattle.gateway.specs.Setups.{setup_of, IsServable};
@@ -33,6 +34,9 @@ pub fn run(alloc: Global, config: &Config, events: &[Event]) -> Result<Vec<Vec<O
     // The log of the events and of what was put out has the headline, and behind it tables are in
     // step, for any events, however the octets are cut.
     ensures promised { IfOk result (λ outputs. Promise (setup_of config.now) (log_of events.now outputs.items)) }
+    // So nothing is smuggled: at any time what each upstream connection was sent reads as requests
+    // that distinct streams mean, and a rest that begins none.
+    ensures safe { IfOk result (λ outputs. NothingSmuggled (log_of events.now outputs.items)) }
     ensures each { IfOk result (λ outputs. length outputs.items ≡ length events.now) }
     // An event is refused only where it may not come after such a log of the events before it.
     ensures refused { IfErr result (λ fault. Explains (setup_of config.now) (map event_of events.now) fault) }

@@ -11,6 +11,7 @@ use Rattle.model.specs.Setup.Passing.{Whole}
 use Rattle.model.specs.Tapes.{Entry}
 use Rattle.model.specs.Tapes.Entry.{Happened, Did}
 use Rattle.model.specs.Admission.{is_open}
+use Rattle.model.specs.Known.{Known}
 use Rattle.model.specs.Failures.{MayFail}
 use Rattle.model.specs.Idle.{LeavesOpen, IsIdle, AreDistinct, AreIdle, NoneIdle, FewAreIdle, IsOneTooMany}
 use Rattle.model.specs.RequestClause.{BeginInTime}
@@ -133,7 +134,7 @@ uses_the_newer c = let clash : 2 ≤ 1 = c.0.least 1 first_of_two refl in omega 
 abbrev pub ninth_heard : List Entry
 ninth_heard = Happened (Up 9 answer_text) ∷ answers 8 (asked 9)
 
-eight_idle : AreIdle by_keeping ninth_heard (8 ∷ 7 ∷ 6 ∷ 5 ∷ 4 ∷ 3 ∷ 2 ∷ 1 ∷ [])
+pub eight_idle : AreIdle by_keeping ninth_heard (8 ∷ 7 ∷ 6 ∷ 5 ∷ 4 ∷ 3 ∷ 2 ∷ 1 ∷ [])
 unfolding total_size
 eight_idle = (
   idle_on Whole ninth_heard 8 15 refl refl refl refl refl refl refl,
@@ -155,11 +156,11 @@ eight_idle = (
   ),
 )
 
-ninth_idle : IsIdle by_keeping ninth_heard 9
+pub ninth_idle : IsIdle by_keeping ninth_heard 9
 unfolding total_size
 ninth_idle = idle_on Whole ninth_heard 9 17 refl refl refl refl refl refl refl
 
-nine : AreDistinct (9 ∷ 8 ∷ 7 ∷ 6 ∷ 5 ∷ 4 ∷ 3 ∷ 2 ∷ 1 ∷ [])
+pub nine : AreDistinct (9 ∷ 8 ∷ 7 ∷ 6 ∷ 5 ∷ 4 ∷ 3 ∷ 2 ∷ 1 ∷ [])
 nine = (refl, (refl, (refl, (refl, (refl, (refl, (refl, (refl, (refl, tt)))))))))
 
 pub one_too_many : IsOneTooMany by_keeping ninth_heard 9
@@ -199,7 +200,7 @@ few_idle (k ∷ j ∷ ks) apart are =
 
 -- ---- no more than eight connections
 
-abbrev IsOne : ℕ → List ℕ → Type 0
+abbrev pub IsOne : ℕ → List ℕ → Type 0
 IsOne k ks = list_any (λ j. j == k) ks ≡ true
 
 -- either of two
@@ -235,7 +236,7 @@ removed_other k n (j ∷ js) i apart = elim (eqb_tells j k) [
     by false e more = more e apart
 
 -- there are no more distinct numbers in a list than it has
-few_distinct : (ks js : List ℕ) → AreDistinct ks → ((n : ℕ) → IsOne n ks → IsOne n js) → length ks ≤ length js
+pub few_distinct : (ks js : List ℕ) → AreDistinct ks → ((n : ℕ) → IsOne n ks → IsOne n js) → length ks ≤ length js
 few_distinct [] js d all = omega arith
 few_distinct (k ∷ ks) js d all =
     let size = removed_length k js (all k (ap (λ b. b || list_any (λ j. j == k) ks) (eq-eqb k k refl))) in
@@ -246,11 +247,11 @@ few_distinct (k ∷ ks) js d all =
     other n i e = let clash : true ≡ false = sym i ∙ ap (λ m. list_any (λ j. j == m) ks) e ∙ d.0 in cc
 
 -- the numbers from so many on down
-abbrev down : ℕ → List ℕ
+abbrev pub down : ℕ → List ℕ
 down zero = []
 down (suc n) = suc n ∷ down n
 
-opened_down : (n k : ℕ) → is_open k (asked n) ≡ true → IsOne k (down n)
+pub opened_down : (n k : ℕ) → is_open k (asked n) ≡ true → IsOne k (down n)
 opened_down zero k on = let clash : false ≡ true = on in cc
 opened_down (suc n) k on = elim (eqb_tells k (suc n)) [
   | inl same ↦ ap (λ b. b || list_any (λ j. j == k) (down n)) (eq-eqb (suc n) k (sym same.1))
@@ -261,16 +262,18 @@ opened_down (suc n) k on = elim (eqb_tells k (suc n)) [
 abbrev pub eighth_heard : List Entry
 eighth_heard = Happened (Up 8 answer_text) ∷ answers 7 (asked 8)
 
-idle_down : (ks : List ℕ) → AreIdle by_keeping eighth_heard ks → (n : ℕ) → IsOne n ks → IsOne n (down 8)
-idle_down [] are n i = cc
-idle_down (k ∷ ks) are n i = elim (eqb_tells k n) [
-  | inl same ↦ (let one : IsIdle by_keeping eighth_heard n = subst (IsIdle by_keeping eighth_heard) same.1 are.0 in opened_down 8 n one.is_open)
-  | inr apart ↦ idle_down ks are.1 n (sym (ap (λ b. b || list_any (λ j. j == n) ks) apart.0) ∙ i)
+-- where these alone are open, idle ones are among them
+pub idle_down : (known : Known) (t : List Entry) (most : ℕ) → ((k : ℕ) → is_open k t ≡ true → IsOne k (down most)) → (ks : List ℕ)
+    → AreIdle known t ks → (n : ℕ) → IsOne n ks → IsOne n (down most)
+idle_down known t most opened [] are n i = cc
+idle_down known t most opened (k ∷ ks) are n i = elim (eqb_tells k n) [
+  | inl same ↦ (let one : IsIdle known t n = subst (IsIdle known t) same.1 are.0 in opened n one.is_open)
+  | inr apart ↦ idle_down known t most opened ks are.1 n (sym (ap (λ b. b || list_any (λ j. j == n) ks) apart.0) ∙ i)
 ]
 
 -- Eight may stay,
 pub keeps_eight : FewAreIdle by_keeping eighth_heard
-keeps_eight ks apart are = few_distinct ks (down 8) apart (idle_down ks are)
+keeps_eight ks apart are = few_distinct ks (down 8) apart (idle_down by_keeping eighth_heard 8 (opened_down 8) ks are)
 
 eighth_idle : IsIdle by_keeping eighth_heard 8
 unfolding total_size
@@ -279,7 +282,7 @@ eighth_idle = idle_on Whole eighth_heard 8 15 refl refl refl refl refl refl refl
 -- so the eighth isn't one too many,
 pub not_too_many : IsOneTooMany by_keeping eighth_heard 8 → ⊥
 not_too_many m =
-    let few : length (8 ∷ m.others) ≤ 8 = few_distinct (8 ∷ m.others) (down 8) m.distinct (idle_down (8 ∷ m.others) (eighth_idle, m.are_idle)) in
+    let few : length (8 ∷ m.others) ≤ 8 = few_distinct (8 ∷ m.others) (down 8) m.distinct (idle_down by_keeping eighth_heard 8 (opened_down 8) (8 ∷ m.others) (eighth_idle, m.are_idle)) in
     let many = m.many in omega (arith, few, many)
 
 -- and it isn't closed.

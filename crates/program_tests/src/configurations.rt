@@ -37,6 +37,7 @@ fn assert_default(rt: &impl Abort, config: &Config) {
     assert_eq!(rt; config.max_body, 1_048_576);
     assert_eq!(rt; config.max_response, 1_048_576);
     assert!(rt; !config.keep);
+    assert_eq!(rt; config.idle, 8);
 }
 
 #[test]
@@ -60,6 +61,31 @@ fn connections_that_are_kept(rt: HostRuntime) -> Result<(), Fail> {
         Key::MaxResponse,
     );
     assert_bad(&rt, rt.alloc(), "route = 1\nkeep = 1", Key::Keep);
+    Ok(())
+}
+
+#[test]
+fn idle_connections(rt: HostRuntime) -> Result<(), Fail> {
+    for (text, idle) in [
+        ("idle = 0", 0),
+        ("idle = 8", 8),
+        ("keep = true\nidle = 100", 100),
+    ] {
+        assert_eq!(rt; taken(&rt, rt.alloc(), text).idle, idle);
+    }
+    for text in [
+        "idle = -1",
+        "idle = 101",
+        "idle = 264",
+        "idle = 8.0",
+        "idle = \"8\"",
+        "idle = true",
+    ] {
+        assert_bad(&rt, rt.alloc(), text, Key::Idle);
+    }
+    // It is judged right behind `keep`, and before the routes.
+    assert_bad(&rt, rt.alloc(), "idle = 101\nkeep = 1", Key::Keep);
+    assert_bad(&rt, rt.alloc(), "route = 1\nidle = 101", Key::Idle);
     Ok(())
 }
 

@@ -161,18 +161,20 @@ impl<'a> Client<'a> {
         Ok(())
     }
 
-    /// Takes turns of it while it has something left, so many in a row at most. The answer is what
-    /// it has left, and how serving it ended, if that was now.
+    /// Takes turns of it while it has something left, so many in a row at most. All that is reported
+    /// was heard, or wasn't. The answer is what it has left, and how serving it ended, if that was
+    /// now.
     pub fn go_on(
         &mut self,
         common: &Common<'a>,
         buffer: &mut Buffer,
+        is_told: bool,
     ) -> (Remaining, Option<Outcome>) {
         let (number, address) = (self.number, self.address);
         let Some(serving) = &mut self.serving else {
             return (self.leave_on(common, buffer), None);
         };
-        let round = serving.take_turns(buffer);
+        let round = serving.take_turns(buffer, is_told);
         say_exchanges(common, number, address, &mut serving.sockets);
         match round {
             Round::More => (Remaining::More, None),
@@ -243,16 +245,23 @@ impl<'a> Serving<'a> {
     }
 
     /// Takes a round of turns, with a buffer that was lent for that.
-    fn take_turns(&mut self, buffer: &mut Buffer) -> Round {
+    fn take_turns(&mut self, buffer: &mut Buffer, is_told: bool) -> Round {
         self.sockets.world.swap_buffer(buffer);
+        self.catch_up(is_told);
         let round = self.take_round();
         self.sockets.world.swap_buffer(buffer);
         round
     }
 
+    /// Its world was told of all that is reported, or wasn't.
+    fn catch_up(&mut self, is_told: bool) {
+        if is_told {
+            self.sockets.world.catch_up();
+        }
+    }
+
     /// Takes turns while there is something left, so many in a row at most.
     fn take_round(&mut self) -> Round {
-        self.sockets.world.catch_up();
         for _ in 0..ROUND {
             if self.turns == 0 {
                 return Round::Ended(Ok(ServiceEnd::Turns));

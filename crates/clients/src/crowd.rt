@@ -19,6 +19,9 @@ use std::io::ErrorKind;
 use std::time::{Duration, Instant};
 use std::{io, net};
 
+/// So often in a row reports are looked for at most, before clients have turns.
+const MOST_LOOKS: u32 = 64;
+
 /// After so many seconds it is looked after clients that are idle or being left.
 const TICK: u64 = 1;
 
@@ -71,7 +74,8 @@ fn serve_by(common: &Common<'_>, reactor: &mut Reactor, listener: TcpListener) -
             break;
         }
         crowd.wait(common, reactor)?;
-        crowd.go_on(common, reactor.reports())?;
+        let is_told = crowd.hear_all(common, reactor)?;
+        crowd.go_on(common, is_told)?;
     }
     Ok(())
 }
@@ -135,17 +139,42 @@ impl<'a> Crowd<'a> {
         self.leaving > 0 || setting.idle > 0 || self.entrance.is_paused()
     }
 
-    /// Heeds what was reported, lets clients in, and lets each that has something left have its turns.
-    fn go_on(&mut self, common: &Common<'a>, reports: &Events) -> Result<(), Stop>
-        requires { IsServable (setup_of common.now.setting.now.config) }
+    /// Heeds what was reported, and looks again as long as so many sockets were that others may have
+    /// something to report, too. The answer is whether all was heard.
+    fn hear_all(&mut self, common: &Common<'a>, reactor: &mut Reactor) -> Result<bool, Stop>
+        ensures { IfErr result (λ stop. 2 ≤ status_of stop) }
+    {
+        for _ in 0..MOST_LOOKS {
+            self.hear_reports(common, reactor.reports())?;
+            if !reactor.may_have_more() {
+                return Ok(true);
+            }
+            reactor
+                .wait(Some(Duration::ZERO))
+                .map_err(|error| stop_of(&error))?;
+        }
+        Ok(false)
+    }
+
+    /// Heeds reports.
+    fn hear_reports(&mut self, common: &Common<'a>, reports: &Events) -> Result<(), Stop>
         ensures { IfErr result (λ stop. 2 ≤ status_of stop) }
     {
         for report in reports {
             self.hear(common, report)?;
         }
+        Ok(())
+    }
+
+    /// Lets clients in, and lets each that has something left have its turns. All that is reported
+    /// was heard, or wasn't.
+    fn go_on(&mut self, common: &Common<'a>, is_told: bool) -> Result<(), Stop>
+        requires { IsServable (setup_of common.now.setting.now.config) }
+        ensures { IfErr result (λ stop. 2 ≤ status_of stop) }
+    {
         self.let_in(common)?;
         self.tick(common)?;
-        self.take_turns(common)
+        self.take_turns(common, is_told)
     }
 
     /// Heeds a report: of the entrance, or of a client, who then has turns.
@@ -237,7 +266,7 @@ impl<'a> Crowd<'a> {
     }
 
     /// Each client that has something left has turns, and stands behind the others then if it has more.
-    fn take_turns(&mut self, common: &Common<'a>) -> Result<(), Stop>
+    fn take_turns(&mut self, common: &Common<'a>, is_told: bool) -> Result<(), Stop>
         ensures { IfErr result (λ stop. 2 ≤ status_of stop) }
     {
         for _ in 0..self.queue.len() {
@@ -245,20 +274,25 @@ impl<'a> Crowd<'a> {
                 break;
             };
             if let Some(place) = place_of(number, &self.clients) {
-                self.take_turns_of(common, place)?;
+                self.take_turns_of(common, place, is_told)?;
             }
         }
         Ok(())
     }
 
     /// The client at a place has turns.
-    fn take_turns_of(&mut self, common: &Common<'a>, place: usize) -> Result<(), Stop>
+    fn take_turns_of(
+        &mut self,
+        common: &Common<'a>,
+        place: usize,
+        is_told: bool,
+    ) -> Result<(), Stop>
         requires { place < vec_len self.old.clients }
         ensures { IfErr result (λ stop. 2 ≤ status_of stop) }
     {
         let client = &mut self.clients[place];
         client.is_queued = false;
-        let (remaining, outcome) = client.go_on(common, &mut self.buffer);
+        let (remaining, outcome) = client.go_on(common, &mut self.buffer, is_told);
         if let Some(outcome) = outcome {
             self.leaving = self.leaving.saturating_add(1);
             note_end(common, client, &outcome)?;

@@ -4,6 +4,8 @@ ghost use Rattle.std.specs.Prelude.{◌≡◌, ◌+◌, ◌<◌, ◌^◌, ◌∷
 ghost use Rattle.model.specs.Logs.{Step};
 ghost use Rattle.effects.specs.Views.{output_of};
 ghost use Rattle.driver.specs.Worlds.{AddsEvent, AddsHanded, SaysOver, KeepsRooms, with_outputs};
+ghost use Rattle.driver.specs.Calls.{HearsIdleFirst};
+ghost use Rattle.driver.specs.Calls.Call.{Asked, Applied};
 
 use driver::{Next, World, WorldFault};
 use exchange_log::{Exchanges, Over};
@@ -138,19 +140,33 @@ impl<'a, C: Clock, W: World + Drop> World for Watched<'a, C, W> {
 
     ghost keeps_rooms = { λ watched. W.keeps_rooms watched.world };
 
-    fn next(&mut self, rooms: &[(u32, usize)]) -> Result<Next, WorldFault>
+    ghost moves = { λ old call new. W.moves old.world call new.world };
+
+    ghost hears_idle_first = { λ watched. W.hears_idle_first watched.world };
+
+    ghost could_read = { λ watched. W.could_read watched.world };
+
+    ghost looks = { λ watched. W.looks watched.world };
+
+    ghost heard_at = { λ watched. W.heard_at watched.world };
+
+    fn next(&mut self, rooms: &[(u32, usize)], idle: &[u32]) -> Result<Next, WorldFault>
         requires calls { W.calls self.old.world + 1 < 2 ^ 64 }
         requires failures { W.failures self.old.world + 1 < 2 ^ 64 }
         ensures calls { W.calls self.new.world ≡ W.calls self.old.world + 1 }
         ensures failures { W.failures self.new.world ≡ (if is_ok result then W.failures self.old.world else W.failures self.old.world + 1) }
         ensures over { IfOk result (λ next. SaysOver next (W.over self.new.world)) }
         ensures log { IfOk result (λ next. AddsEvent (W.log self.old.world) next (W.log self.new.world)) }
-        ensures handed { OnOk result (AddsHanded (W.log self.old.world) (W.handed self.old.world) rooms.now (W.handed self.new.world)) }
+        ensures handed { OnOk result (AddsHanded (W.log self.old.world) (W.handed self.old.world) rooms.now idle.now (W.handed self.new.world)) }
         ensures err { OnErr result ((W.log self.new.world ≡ W.log self.old.world) × (W.handed self.new.world ≡ W.handed self.old.world)) }
         ensures rooms { W.keeps_rooms self.old.world ≡ true → IfOk result (λ next. KeepsRooms rooms.now next) }
         ensures keeps_rooms { W.keeps_rooms self.new.world ≡ W.keeps_rooms self.old.world }
+        ensures moves { W.moves self.old.world (Asked rooms.now idle.now result) self.new.world }
+        ensures idle_first { W.hears_idle_first self.old.world → IfOk result (λ next. HearsIdleFirst idle.now next (W.could_read self.new.world)
+            (W.heard_at self.old.world) (W.heard_at self.new.world) (W.looks self.new.world)) }
+        ensures hears_on { OnOk result (W.hears_idle_first self.old.world → W.hears_idle_first self.new.world) }
     {
-        let next = self.world.next(rooms)?;
+        let next = self.world.next(rooms, idle)?;
         if let Next::Happened(event) = &next {
             self.note_event(event);
         }
@@ -167,6 +183,8 @@ impl<'a, C: Clock, W: World + Drop> World for Watched<'a, C, W> {
         ensures handed { W.handed self.new.world ≡ W.handed self.old.world }
         ensures over { W.over self.new.world ≡ W.over self.old.world }
         ensures keeps_rooms { W.keeps_rooms self.new.world ≡ W.keeps_rooms self.old.world }
+        ensures moves { W.moves self.old.world (Applied output.now result) self.new.world }
+        ensures hears_on { OnOk result (W.hears_idle_first self.old.world → W.hears_idle_first self.new.world) }
     {
         self.note_output(output);
         self.world.apply(output)

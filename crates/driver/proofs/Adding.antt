@@ -12,7 +12,7 @@ use Rattle.effects.specs.Views.{event_of, output_of, outputs_of}
 use Rattle.theory.specs.Moves.{Move}
 use Rattle.theory.specs.State.{conducts, tape_of}
 use Rattle.gateway.specs.Promises.{Promise}
-use Rattle.gateway.specs.Rooms.{AreRooms}
+use Rattle.gateway.specs.Rooms.{AreRooms, AreAllIdle}
 use Rattle.gateway.specs.Stands.{Standing, Stands, StandsNext}
 use Rattle.gateway.proofs.Running.{promised_at}
 use Rattle.effects.specs.declared.events.Event.{Event}
@@ -56,6 +56,7 @@ is_handed_more setup n added more h i = record {
   steps = i.steps;
   promise = i.promise;
   rooms = i.rooms;
+  idle = i.idle;
 }
 
 are_handed_more : (setup : Setup) (n : ℕ) (added more : List Step) (hs : List Handed) → AreHanded setup n added hs → AreHanded setup n (added ++ more) hs
@@ -182,13 +183,17 @@ unanswered setup closed log came_log log' g rooms old handed before event same s
 
 -- ---- a call of `next`
 
+-- Those that are idle are so behind whatever log the gateway stands for.
+abbrev pub TellsIdle : Standing → List ℕ → Type 0
+TellsIdle g idle = (setup : Setup) (log : List Step) (run : List Move) → Stands setup g log run → AreAllIdle (known_of setup (conducts run)) (tape_of run) idle
+
 -- What it was handed is right, and so is what was handed before.
-pub hands_one : (setup : Setup) (log : Option (List Step)) (g : Standing) (rooms : List (ℕ × ℕ)) (old handed handed' : Option (List Handed)) (before : List Step) → AddsHanded log handed rooms handed'
-    → (s : Serves setup false log g rooms old handed before) → AreAllHanded setup (length before) s.added old handed'
-hands_one setup log g rooms old handed handed' before adds s = λ earlier e.
+pub hands_one : (setup : Setup) (log : Option (List Step)) (g : Standing) (rooms : List (ℕ × ℕ)) (idle : List ℕ) (old handed handed' : Option (List Handed)) (before : List Step) → AddsHanded log handed rooms idle handed'
+    → TellsIdle g idle → (s : Serves setup false log g rooms old handed before) → AreAllHanded setup (length before) s.added old handed'
+hands_one setup log g rooms idle old handed handed' before adds tells s = λ earlier e.
     let a = s.hands earlier e in
     let p = promised_at setup g s.added s.run s.stands in
-    let one : Handed = record { steps = length (before ++ s.added); rooms = rooms } in
+    let one : Handed = record { steps = length (before ++ s.added); rooms = rooms; idle = idle } in
     let right : IsHanded setup (length before) s.added one = record {
       front = s.added;
       rest = [];
@@ -197,6 +202,7 @@ hands_one setup log g rooms old handed handed' before adds s = λ earlier e.
       steps = length-append before s.added;
       promise = p.0;
       rooms = subst (λ k. AreRooms k p.0.headline.tape rooms) (sym p.2) (subst (λ t. AreRooms (known_of setup (conducts s.run)) t rooms) (sym p.1) s.rooms_are);
+      idle = subst (λ k. AreAllIdle k p.0.headline.tape idle) (sym p.2) (subst (λ t. AreAllIdle (known_of setup (conducts s.run)) t idle) (sym p.1) (tells setup (reverse s.added) s.run s.stands));
     } in (
       a.0 ++ one ∷ [],
       adds (before ++ s.added) (earlier ++ a.0) s.is a.1 ∙ ap Some (append_assoc earlier a.0 (one ∷ [])),
@@ -204,16 +210,16 @@ hands_one setup log g rooms old handed handed' before adds s = λ earlier e.
     )
 
 -- Nothing came.
-pub serves_same : (setup : Setup) (log log' : Option (List Step)) (g : Standing) (rooms : List (ℕ × ℕ)) (old handed handed' : Option (List Handed)) (before : List Step) → log' ≡ log → AddsHanded log handed rooms handed'
-    → Serves setup false log g rooms old handed before → Serves setup false log' g rooms old handed' before
-serves_same setup log log' g rooms old handed handed' before e adds s = record {
+pub serves_same : (setup : Setup) (log log' : Option (List Step)) (g : Standing) (rooms : List (ℕ × ℕ)) (idle : List ℕ) (old handed handed' : Option (List Handed)) (before : List Step) → log' ≡ log → AddsHanded log handed rooms idle handed'
+    → TellsIdle g idle → Serves setup false log g rooms old handed before → Serves setup false log' g rooms old handed' before
+serves_same setup log log' g rooms idle old handed handed' before e adds tells s = record {
   added = s.added;
   run = s.run;
   is = e ∙ s.is;
   stands = s.stands;
   has_closed_is = s.has_closed_is;
   rooms_are = s.rooms_are;
-  hands = hands_one setup log g rooms old handed handed' before adds s;
+  hands = hands_one setup log g rooms idle old handed handed' before adds tells s;
 }
 
 -- What was handed is right where nothing is added any more,

@@ -1,3 +1,4 @@
 pub mod Worlds
 pub mod Memory
 pub mod Services
+pub mod Calls

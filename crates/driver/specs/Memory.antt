@@ -1,13 +1,15 @@
 -- What a world in memory keeps.
-use Rattle.std.specs.Prelude.{◌≡◌, ◌==◌, ◌-◌, ℕ, Bool, false, if◌then◌else◌, Option, Some, None, List, [], ◌∷◌, map, drop}
+use Rattle.std.specs.Prelude.{◌≡◌, ◌==◌, ◌-◌, ℕ, Bool, false, if◌then◌else◌, Option, Some, None, Ok, Err, List, [], ◌∷◌, ◌++◌, map, drop}
 use Rattle.std.specs.declared.vec.Vec.{Vec}
 use Rattle.std.specs.declared.alloc.Global.{Global}
 use Rattle.model.specs.Logs as logs
 use Rattle.model.specs.Logs.{Step}
 use Rattle.effects.specs.declared.events.Event.{Event}
 use Rattle.effects.specs.declared.events.Output.{Output}
-use Rattle.effects.specs.Views.{event_of, outputs_of}
-use Rattle.driver.specs.Worlds.{Handed}
+use Rattle.effects.specs.Views.{event_of, output_of, outputs_of}
+use Rattle.driver.specs.Worlds.{Handed, AddsEvent, with_outputs}
+use Rattle.driver.specs.Calls.{Call}
+use Rattle.driver.specs.Calls.Call.{Asked, Applied}
 use Rattle.driver.specs.declared.memory.MemoryWorld.{MemoryWorld}
 use Rattle.driver.specs.declared.world.Next.{Next}
 use Rattle.driver.specs.declared.world.Next.TheVariants.{Happened, Nothing, Over}
@@ -23,8 +25,8 @@ abbrev pub log_in : MemoryWorld → List Step
 log_in world = steps_of world.log.items
 
 -- what its calls of `next` were handed
-abbrev pub handed_of : ℕ × Vec (ℕ × ℕ) Global → Handed
-handed_of pair = record { steps = pair.0; rooms = pair.1.items }
+abbrev pub handed_of : ℕ × Vec (ℕ × ℕ) Global × Vec ℕ Global → Handed
+handed_of one = record { steps = one.0; rooms = one.1.items; idle = one.2.items }
 
 abbrev pub handed_in : MemoryWorld → List Handed
 handed_in world = map handed_of world.handed.items
@@ -38,6 +40,15 @@ abbrev pub Gives : List logs.Event → Next → List logs.Event → Type 0
 Gives old (Happened event) new = old ≡ event_of event ∷ new
 Gives old Over new = (old ≡ []) × (new ≡ [])
 Gives old Nothing new = ⊥
+
+-- How a call moves it: what comes next stands at the end of its log and isn't left any more, an output stands behind those of the last step, and a call
+-- that failed changes neither.
+abbrev pub MovesOn : MemoryWorld → Call → MemoryWorld → Type 0
+MovesOn old (Asked rooms idle (Ok next)) new = AddsEvent (Some (log_in old)) next (Some (log_in new)) × Gives (left_in old) next (left_in new)
+MovesOn old (Asked rooms idle (Err failed)) new = (log_in new ≡ log_in old) × (left_in new ≡ left_in old)
+MovesOn old (Applied output (Ok done)) new = ((before : List Step) (step : Step) → log_in old ≡ before ++ step ∷ []
+    → log_in new ≡ before ++ with_outputs step (output_of output ∷ []) ∷ []) × (left_in new ≡ left_in old)
+MovesOn old (Applied output (Err failed)) new = (log_in new ≡ log_in old) × (left_in new ≡ left_in old)
 
 -- whether the call that comes fails, by how many come before the one that does
 abbrev pub is_due : Option ℕ → Bool

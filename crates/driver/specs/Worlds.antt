@@ -11,7 +11,7 @@ use Rattle.effects.specs.Views.{event_of}
 use Rattle.theory.specs.Moves.{Move}
 use Rattle.theory.specs.State.{conducts, tape_of}
 use Rattle.gateway.specs.Promises.{Promise}
-use Rattle.gateway.specs.Rooms.{AreRooms}
+use Rattle.gateway.specs.Rooms.{AreRooms, AreAllIdle}
 use Rattle.gateway.specs.Stands.{Standing, Stands}
 use Rattle.std.specs.List.{list_any}
 use Rattle.model.specs.Logs.Output.{Does}
@@ -23,10 +23,11 @@ use Rattle.driver.specs.declared.services.Peer.TheVariants as peer
 use Rattle.driver.specs.declared.world.Next.{Next}
 use Rattle.driver.specs.declared.world.Next.TheVariants.{Happened, Nothing, Over}
 
--- What a call of `next` was handed, and how many steps the log had then.
+-- What a call of `next` was handed, and how many steps the log had then: the open connections, each with its room, and those that are idle.
 pub record Handed : Type 0 where
   pub steps : ℕ
   pub rooms : List (ℕ × ℕ)
+  pub idle : List ℕ
 
 -- a step with more outputs behind its own
 abbrev pub with_outputs : Step → List logs.Output → Step
@@ -43,9 +44,9 @@ AddsEvent old Nothing new = new ≡ old
 AddsEvent old Over new = new ≡ old
 
 -- What was handed is told behind all that was handed before, with how many steps the log had.
-abbrev pub AddsHanded : Option (List Step) → Option (List Handed) → List (ℕ × ℕ) → Option (List Handed) → Type 0
-AddsHanded log old rooms new = (steps : List Step) (earlier : List Handed) → log ≡ Some steps → old ≡ Some earlier
-    → new ≡ Some (earlier ++ record { steps = length steps; rooms = rooms } ∷ [])
+abbrev pub AddsHanded : Option (List Step) → Option (List Handed) → List (ℕ × ℕ) → List ℕ → Option (List Handed) → Type 0
+AddsHanded log old rooms idle new = (steps : List Step) (earlier : List Handed) → log ≡ Some steps → old ≡ Some earlier
+    → new ≡ Some (earlier ++ record { steps = length steps; rooms = rooms; idle = idle } ∷ [])
 
 -- Where nothing comes any more, that was said.
 abbrev pub SaysOver : Next → Bool → Type 0
@@ -148,7 +149,8 @@ AddsUnanswered setup old new = (before : List Step) → old ≡ Some before → 
 -- ---- what was handed
 
 -- It was handed behind a front of what was added to a log of so many steps, in which the client isn't closed. What is promised holds of that front, and
--- the connections that are open behind it are what was handed, by rising number, each with how many octets of it may come in one event.
+-- the connections that are open behind it are what was handed, by rising number, each with how many octets of it may come in one event, with those that
+-- are idle behind it.
 pub record IsHanded (setup : Setup) (before : ℕ) (added : List Step) (handed : Handed) : Type 0 where
   pub front : List Step
   pub rest : List Step
@@ -157,6 +159,7 @@ pub record IsHanded (setup : Setup) (before : ℕ) (added : List Step) (handed :
   pub steps : handed.steps ≡ before + length front
   pub promise : Promise setup front
   pub rooms : AreRooms promise.headline.known promise.headline.tape handed.rooms
+  pub idle : AreAllIdle promise.headline.known promise.headline.tape handed.idle
 
 abbrev pub AreHanded : Setup → ℕ → List Step → List Handed → Type 0
 AreHanded setup before added [] = Unit {0}

@@ -6,7 +6,7 @@ mod service;
 mod services;
 mod world;
 
-pub use memory::MemoryWorld;
+pub use memory::{HandedCall, MemoryWorld};
 pub use service::Service;
 pub use services::{Peer, ServeFault, ServiceEnd, serve};
 pub use world::{Next, World, WorldFault};

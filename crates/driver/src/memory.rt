@@ -3,12 +3,17 @@
 ghost use Rattle.std.specs.Prelude.{◌≡◌, ◌+◌, ◌<◌, ◌^◌, ◌∷◌, ◌++◌, [], List, Some, true, false, map, is_ok, IfOk, OnOk, OnErr, if◌then◌else◌};
 ghost use Rattle.model.specs.Logs.{Step};
 ghost use Rattle.effects.specs.Views.{event_of, output_of};
-ghost use Rattle.driver.specs.Memory.{steps_of, log_in, handed_in, left_in, Gives, is_due, one_fewer};
+ghost use Rattle.driver.specs.Memory.{steps_of, log_in, handed_in, left_in, Gives, MovesOn, is_due, one_fewer};
 ghost use Rattle.driver.specs.Worlds.{AddsEvent, AddsHanded, KeepsRooms, SaysOver, with_outputs};
+ghost use Rattle.driver.specs.Calls.{HearsIdleFirst};
+ghost use Rattle.driver.specs.Calls.Call.{Asked, Applied};
 
 use crate::world::{Next, World, WorldFault};
 use effects::{Event, Output, Text};
 use std::alloc::{AllocError, Global};
+
+/// How many steps a log had, the rooms of the open connections, and those that are idle.
+pub type HandedCall = (usize, Vec<(u32, usize)>, Vec<u32>);
 
 /// A world that gives a list of events in order, each as soon as it is asked, and keeps its log.
 #[derive(Drop)]
@@ -18,8 +23,8 @@ pub struct MemoryWorld {
     /// How many of the events were given.
     given: usize,
     log: Vec<(Event, Vec<Output>)>,
-    /// For each call of `next` that didn't fail how many steps the log had, and the rooms that it was handed.
-    handed: Vec<(usize, Vec<(u32, usize)>)>,
+    /// For each call of `next` that didn't fail how many steps the log had, and what it was handed.
+    handed: Vec<HandedCall>,
     over: bool,
     /// How many calls come before the one that fails, if one will.
     fails_in: Option<u64>,
@@ -57,26 +62,27 @@ impl MemoryWorld {
         &self.log
     }
 
-    /// For each call of `next` that didn't fail how many steps the log had, and the rooms that it
-    /// was handed, the first one first.
-    pub fn handed(&self) -> &[(usize, Vec<(u32, usize)>)]
+    /// For each call of `next` that didn't fail how many steps the log had, and the rooms and the
+    /// idle connections that it was handed, the first one first.
+    pub fn handed(&self) -> &[HandedCall]
         ensures { result.now ≡ self.now.handed.items }
     {
         &self.handed
     }
 
     /// Keeps what it is handed, and gives the next event. Where memory is refused nothing changes.
-    fn take_call(&mut self, rooms: &[(u32, usize)]) -> Result<Next, AllocError>
+    fn take_call(&mut self, rooms: &[(u32, usize)], idle: &[u32]) -> Result<Next, AllocError>
         ensures gives { IfOk result (λ next. Gives (left_in self.old) next (left_in self.new)) }
         ensures log { IfOk result (λ next. AddsEvent (Some (log_in self.old)) next (Some (log_in self.new))) }
-        ensures handed { OnOk result (AddsHanded (Some (log_in self.old)) (Some (handed_in self.old)) rooms.now (Some (handed_in self.new))) }
+        ensures handed { OnOk result (AddsHanded (Some (log_in self.old)) (Some (handed_in self.old)) rooms.now idle.now (Some (handed_in self.new))) }
         ensures over { IfOk result (λ next. SaysOver next self.new.over) }
         ensures err { OnErr result ((left_in self.new ≡ left_in self.old) × (log_in self.new ≡ log_in self.old) × (handed_in self.new ≡ handed_in self.old)) }
         ensures counts { (self.new.calls ≡ self.old.calls) × (self.new.failures ≡ self.old.failures) × (self.new.fails_in ≡ self.old.fails_in) }
     {
         let steps = self.log.len();
         let rooms = Vec::from_slice(self.alloc, rooms)?;
-        self.handed.push((steps, rooms))?;
+        let idle = Vec::from_slice(self.alloc, idle)?;
+        self.handed.push((steps, rooms, idle))?;
         let next = self.give();
         if next.is_err() {
             let _rooms = self.handed.pop();
@@ -179,7 +185,7 @@ fn add_output(
 
 impl World for MemoryWorld {
     ghost use Rattle.std.specs.Prelude.{Some, false};
-    ghost use Rattle.driver.specs.Memory.{log_in, handed_in};
+    ghost use Rattle.driver.specs.Memory.{log_in, handed_in, MovesOn};
 
     ghost calls = { λ world. world.calls };
 
@@ -194,17 +200,30 @@ impl World for MemoryWorld {
     // It gives what it was made with.
     ghost keeps_rooms = { λ _. false };
 
-    fn next(&mut self, rooms: &[(u32, usize)]) -> Result<Next, WorldFault>
+    ghost moves = { MovesOn };
+
+    ghost hears_idle_first = { λ _. ⊥ };
+
+    ghost could_read = { λ _ _. false };
+
+    ghost looks = { λ _. 0 };
+
+    ghost heard_at = { λ _. 0 };
+
+    fn next(&mut self, rooms: &[(u32, usize)], idle: &[u32]) -> Result<Next, WorldFault>
         requires calls { self.old.calls + 1 < 2 ^ 64 }
         requires failures { self.old.failures + 1 < 2 ^ 64 }
         ensures calls { self.new.calls ≡ self.old.calls + 1 }
         ensures failures { self.new.failures ≡ (if is_ok result then self.old.failures else self.old.failures + 1) }
         ensures over { IfOk result (λ next. SaysOver next self.new.over) }
         ensures log { IfOk result (λ next. AddsEvent (Some (log_in self.old)) next (Some (log_in self.new))) }
-        ensures handed { OnOk result (AddsHanded (Some (log_in self.old)) (Some (handed_in self.old)) rooms.now (Some (handed_in self.new))) }
+        ensures handed { OnOk result (AddsHanded (Some (log_in self.old)) (Some (handed_in self.old)) rooms.now idle.now (Some (handed_in self.new))) }
         ensures err { OnErr result ((log_in self.new ≡ log_in self.old) × (handed_in self.new ≡ handed_in self.old)) }
         ensures rooms { false ≡ true → IfOk result (λ next. KeepsRooms rooms.now next) }
         ensures keeps_rooms { false ≡ false }
+        ensures moves { MovesOn self.old (Asked rooms.now idle.now result) self.new }
+        ensures idle_first { ⊥ → IfOk result (λ next. HearsIdleFirst idle.now next (λ _. false) 0 0 0) }
+        ensures hears_on { OnOk result (⊥ → ⊥) }
         // The events come in order, and none is lost where a call fails.
         ensures gives { IfOk result (λ next. Gives (left_in self.old) next (left_in self.new)) }
         ensures kept { OnErr result (left_in self.new ≡ left_in self.old) }
@@ -217,7 +236,7 @@ impl World for MemoryWorld {
             self.failures += 1;
             return Err(WorldFault {});
         }
-        match self.take_call(rooms) {
+        match self.take_call(rooms, idle) {
             Ok(next) => Ok(next),
             Err(_) => {
                 self.failures += 1;
@@ -236,6 +255,8 @@ impl World for MemoryWorld {
         ensures handed { handed_in self.new ≡ handed_in self.old }
         ensures over { self.new.over ≡ self.old.over }
         ensures keeps_rooms { false ≡ false }
+        ensures moves { MovesOn self.old (Applied output.now result) self.new }
+        ensures hears_on { OnOk result (⊥ → ⊥) }
         ensures kept { left_in self.new ≡ left_in self.old }
         ensures due { OnOk result (is_due self.old.fails_in ≡ false) }
         ensures fewer { self.new.fails_in ≡ one_fewer self.old.fails_in }

@@ -7,6 +7,7 @@ ghost use Rattle.gateway.specs.Setups.{setup_of, IsServable};
 ghost use Rattle.gateway.specs.Stands.{opened_in};
 ghost use Rattle.driver.specs.Worlds.{Handed, AddsPromised, AddsFrontTo, AddsRefusedTo, AddsUnansweredTo, HandsTo, SaysEnd, ends};
 ghost use Rattle.driver.specs.Services.{Begins, Goes, turn_of, outcome_of};
+ghost use Rattle.driver.specs.Calls.{Runs, TurnLeaves};
 
 use crate::services::{Peer, ServeFault, ServiceEnd, take_turn};
 use crate::world::World;
@@ -107,6 +108,10 @@ impl Service {
         ensures hands { self.old.outcome ≡ None → OnErr result ((setup : Setup) (before : List Step) (earlier : Option (List Handed))
             → Goes setup false self.old (W.log world.old) (W.handed world.old) before earlier
             → HandsTo setup before earlier (W.log world.new) (W.handed world.new)) }
+        // Whether the world tells a log or not: what the service stood for by calls along which it moved, it does so still, and a fault is one of these.
+        ensures calls_are { self.old.outcome ≡ None → (setup : Setup) (begun : W)
+            → Runs W.moves W.hears_idle_first W.could_read W.heard_at W.looks setup false begun world.old self.old.gateway self.old.rooms
+            → TurnLeaves W.moves W.hears_idle_first W.could_read W.heard_at W.looks setup result begun world.new self.new.gateway self.new.rooms }
     {
         match self.outcome {
             Some(outcome) => outcome.map(Some),

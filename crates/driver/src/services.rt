@@ -1,7 +1,7 @@
 //! A gateway before a world.
 
 ghost use Rattle.std.specs.Prelude.{◌≡◌, ℕ, ◌+◌, ◌<◌, ◌≤◌, ◌^◌, ◌∷◌, ◌++◌, [], List, Option, Some, length, reverse};
-ghost use Rattle.std.specs.Prelude.{None, true, false, IsOkAnd, IsErrOf, OnOk, OnErr, IfOk};
+ghost use Rattle.std.specs.Prelude.{None, true, false, Err, IsOkAnd, IsErrOf, OnOk, OnErr, IfOk, IfErr};
 ghost use Rattle.model.specs.Logs.{Step, Output as Put};
 ghost use Rattle.std.specs.List.{list_any};
 ghost use Rattle.model.specs.Setup.{Setup};
@@ -15,6 +15,7 @@ ghost use Rattle.driver.specs.Worlds.{Handed, AddsRun, AddsFront, AddsFrontTo, A
 ghost use Rattle.driver.specs.Worlds.{AddsUnanswered, AddsUnansweredTo, AreAllHanded, Hands, HandsTo, SaysEnd, ends};
 ghost use Rattle.driver.specs.Worlds.{with_outputs, came, closes, has_closed, Serves, StandsWithRooms, peer_of};
 ghost use Rattle.driver.specs.Services.{Begins};
+ghost use Rattle.driver.specs.Calls.{Call, Along, Moves, AppliesTo, HasCome, Runs, WasServed, TurnLeaves, told};
 ghost use Rattle.model.specs.Rooms.{IsAdmitted};
 ghost use Rattle.theory_errors.specs.Rule.{known_of};
 
@@ -93,6 +94,15 @@ fn apply_all<W: World>(world: &mut W, outputs: &[Output]) -> Result<(), WorldFau
     ensures handed { W.handed world.new ≡ W.handed world.old }
     ensures over { W.over world.new ≡ W.over world.old }
     ensures keeps_rooms { W.keeps_rooms world.new ≡ W.keeps_rooms world.old }
+    ensures hears_on { OnOk result (W.hears_idle_first world.old → W.hears_idle_first world.new) }
+    // It moves on along these calls, which tell the outputs that were applied.
+    ensures applies { OnOk result ((begun : W) (calls : List Call) (before : List Step) (step : Step)
+        → Along (Moves W.moves W.hears_idle_first W.could_read W.heard_at W.looks (W.hears_idle_first begun)) begun calls world.old → told calls ≡ Some (before ++ step ∷ [])
+        → AppliesTo W.moves W.hears_idle_first W.could_read W.heard_at W.looks begun calls (before ++ with_outputs step (outputs_of outputs.now) ∷ []) world.new) }
+    ensures applies_front { OnErr result ((begun : W) (calls : List Call) (before : List Step) (step : Step)
+        → Along (Moves W.moves W.hears_idle_first W.could_read W.heard_at W.looks (W.hears_idle_first begun)) begun calls world.old → told calls ≡ Some (before ++ step ∷ [])
+        → (done : List Put) × (more : List Put) × (outputs_of outputs.now ≡ done ++ more)
+        × AppliesTo W.moves W.hears_idle_first W.could_read W.heard_at W.looks begun calls (before ++ with_outputs step done ∷ []) world.new) }
     // Some of the first were applied, and the one that failed isn't in the log.
     ensures front { OnErr result ((before : List Step) (step : Step) → W.log world.old ≡ Some (before ++ step ∷ [])
         → (done : List Put) × (more : List Put) × (outputs_of outputs.now ≡ done ++ more) × (W.log world.new ≡ Some (before ++ with_outputs step done ∷ []))) }
@@ -138,6 +148,12 @@ fn take_event<W: World>(
     ensures handed { W.handed world.new ≡ W.handed world.old }
     ensures over { W.over world.new ≡ W.over world.old }
     ensures keeps_rooms { W.keeps_rooms world.new ≡ W.keeps_rooms world.old }
+    ensures runs { IfOk result (λ closed. (setup : Setup) (begun : W)
+        → HasCome W.moves W.hears_idle_first W.could_read W.heard_at W.looks setup begun world.old gateway.old rooms.old.items event.now
+        → Runs W.moves W.hears_idle_first W.could_read W.heard_at W.looks setup closed begun world.new gateway.new rooms.new.items) }
+    ensures fails { IfErr result (λ fault. (setup : Setup) (begun : W)
+        → HasCome W.moves W.hears_idle_first W.could_read W.heard_at W.looks setup begun world.old gateway.old rooms.old.items event.now
+        → WasServed W.moves W.hears_idle_first W.could_read W.heard_at W.looks setup (Err fault) begun world.new) }
 {
     if !gateway.admits(event) {
         return Err(ServeFault::NotAdmitted(whose(event)));
@@ -190,8 +206,10 @@ pub fn take_turn<W: World>(
     ensures hands { OnErr result ((setup : Setup) (before : List Step) (old : Option (List Handed))
         → Serves setup false (W.log world.old) gateway.old rooms.old.items old (W.handed world.old) before
         → HandsTo setup before old (W.log world.new) (W.handed world.new)) }
+    ensures calls_are { (setup : Setup) (begun : W) → Runs W.moves W.hears_idle_first W.could_read W.heard_at W.looks setup false begun world.old gateway.old rooms.old.items
+        → TurnLeaves W.moves W.hears_idle_first W.could_read W.heard_at W.looks setup result begun world.new gateway.new rooms.new.items }
 {
-    match world.next(rooms) {
+    match world.next(rooms, gateway.idle()) {
         Err(_) => Err(ServeFault::World),
         Ok(Next::Nothing) => Ok(None),
         Ok(Next::Over) => Ok(Some(ServiceEnd::Over)),
@@ -249,6 +267,8 @@ pub fn serve<W: World>(
     ensures hands { Hands (setup_of config.now) (W.log world.old) (W.handed world.old) (W.log world.new) (W.handed world.new) }
     ensures turns { IsOkAnd result (λ ended. ended ≡ ServiceEnd.Turns) → W.calls world.new ≡ W.calls world.old + turns }
     ensures over { IsOkAnd result (λ ended. ended ≡ ServiceEnd.Over) → W.over world.new ≡ true }
+    // Whether the world tells a log or not: there are calls along which it moved, and of the log that these tell the same holds.
+    ensures calls_are { WasServed W.moves W.hears_idle_first W.could_read W.heard_at W.looks (setup_of config.now) result world.old world.new }
 {
     let Ok(mut service) = Service::new(alloc, config) else {
         return Err(ServeFault::Memory);
@@ -279,6 +299,7 @@ fn serve_turns<W: World>(
     ensures hands { (setup : Setup) → Begins setup service.old → Hands setup (W.log world.old) (W.handed world.old) (W.log world.new) (W.handed world.new) }
     ensures turns { IsOkAnd result (λ ended. ended ≡ ServiceEnd.Turns) → W.calls world.new ≡ W.calls world.old + turns }
     ensures over { IsOkAnd result (λ ended. ended ≡ ServiceEnd.Over) → W.over world.new ≡ true }
+    ensures calls_are { (setup : Setup) → Begins setup service.old → WasServed W.moves W.hears_idle_first W.could_read W.heard_at W.looks setup result world.old world.new }
 {
     for _turn in 0..turns {
         match service.take_turn(world) {

@@ -3,7 +3,9 @@
 ghost use Rattle.std.specs.Prelude.{◌≡◌, IfOk};
 ghost use Rattle.gateway.specs.Setups.{setup_of, IsServable};
 
-use driver::{MemoryWorld, Next, Peer, ServeFault, Service, ServiceEnd, World, WorldFault, serve};
+use driver::{
+    HandedCall, MemoryWorld, Next, Peer, ServeFault, Service, ServiceEnd, World, WorldFault, serve,
+};
 use gateway::{Config, Event, Output, Route};
 use std::alloc::{AllocError, Global};
 use std::io;
@@ -36,7 +38,7 @@ struct Quiet {
 }
 
 impl World for Quiet {
-    ghost use Rattle.std.specs.Prelude.{None, true};
+    ghost use Rattle.std.specs.Prelude.{None, true, ⊤};
 
     ghost calls = { λ world. world.turn };
 
@@ -50,7 +52,17 @@ impl World for Quiet {
 
     ghost keeps_rooms = { λ _. true };
 
-    fn next(&mut self, _rooms: &[(u32, usize)]) -> Result<Next, WorldFault> {
+    ghost moves = { λ _ _ _. ⊤ };
+
+    ghost hears_idle_first = { λ _. ⊥ };
+
+    ghost could_read = { λ _ _. true };
+
+    ghost looks = { λ _. 0 };
+
+    ghost heard_at = { λ _. 0 };
+
+    fn next(&mut self, _rooms: &[(u32, usize)], _idle: &[u32]) -> Result<Next, WorldFault> {
         let turn = self.turn;
         self.turn += 1;
         self.over = turn > self.goes_at;
@@ -291,11 +303,12 @@ fn served(
 static HANDED: [(usize, &[(u32, usize)]); 3] = [(0, &[]), (1, &[(1, 65536)]), (2, &[])];
 
 /// Just that was handed.
-fn assert_handed(rt: &impl Abort, handed: &[(usize, Vec<(u32, usize)>)]) {
+fn assert_handed(rt: &impl Abort, handed: &[HandedCall]) {
     assert_eq!(rt; handed.len(), HANDED.len());
-    for ((steps, rooms), (wanted_steps, wanted_rooms)) in handed.iter().zip(&HANDED) {
+    for ((steps, rooms, idle), (wanted_steps, wanted_rooms)) in handed.iter().zip(&HANDED) {
         assert_eq!(rt; *steps, *wanted_steps);
         assert_eq!(rt; rooms.as_slice(), *wanted_rooms);
+        assert!(rt; idle.is_empty());
     }
 }
 

@@ -4,3 +4,4 @@ pub mod Rising
 pub mod Moving
 pub mod Events
 pub mod Queueing
+mod Idling

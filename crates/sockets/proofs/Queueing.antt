@@ -9,7 +9,7 @@ use Rattle.std.proofs.lemmas.List.Folds.{list_any_at}
 use Rattle.socket_io.specs.Transfers.{Way, told}
 use Rattle.sockets.specs.Sides.{may_be_ready, out_of, owes, side_told}
 use Rattle.sockets.specs.Performed.{AreRising, IsOpenNowhere}
-use Rattle.sockets.specs.Queues.{Grows, took_untold, IsMarked, IsListed, AllListed, IsClientListed, AreQueued, is_clients, client_last}
+use Rattle.sockets.specs.Queues.{Grows, StandsIn, took_untold, IsMarked, IsListed, AllListed, IsClientListed, AreQueued, is_clients, client_last}
 use Rattle.sockets.specs.declared.side.Side.{Side}
 use Rattle.sockets.specs.declared.upstream.Upstream.{Upstream}
 
@@ -41,17 +41,13 @@ stands_at x n a (suc i) other within is = (i, grind (arith, within), is)
 pub stands_on : (x n : ℕ) (a : List ℕ) → (x ≡ n → ⊥) → Contains (n ∷ a) x → Contains a x
 stands_on x n a other stands = stands_at x n a stands.0 other stands.1 stands.2
 
--- What stood in a queue stands in another.
-abbrev pub StandsIn : List ℕ → List ℕ → Type 0
-StandsIn a b = (x : ℕ) → Contains a x → Contains b x
-
 -- ---- the client goes behind the others
 
 -- another number than the client's
 abbrev pub is_other : ℕ → Bool
 is_other number = not (is_clients number)
 
-stands_before : (x n : ℕ) (a : List ℕ) → Contains a x → Contains (n ∷ a) x
+pub stands_before : (x n : ℕ) (a : List ℕ) → Contains a x → Contains (n ∷ a) x
 stands_before x n a stands = let within = stands.1 in (suc stands.0, grind (arith, within), stands.2)
 
 -- Another number that stands in a queue stands among the others.

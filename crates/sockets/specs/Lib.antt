@@ -7,3 +7,5 @@ pub mod Queues
 pub mod Tokens
 pub mod Departing
 pub mod Noting
+pub mod Idle
+pub mod Moves

@@ -1,10 +1,7 @@
 -- Which sockets stand among those of which something may be read, and which upstreams among those of which it may have to be told what they took.
 use Rattle.std.specs.Prelude.{◌≡◌, ◌<◌, ◌++◌, ◌&&◌, ◌==◌, ℕ, Bool, true, false, not, nat_lt, if◌then◌else◌, List, [], ◌∷◌, length, Option, None, Some, ⊤}
 use Rattle.std.specs.List.{Contains, filter, list_any}
-use Rattle.effects.specs.declared.events.Output.{Output}
-use Rattle.effects.specs.declared.events.Output.TheVariants.{Open}
 use Rattle.sockets.specs.Sides.{may_be_ready}
-use Rattle.sockets.specs.Performed.{IsOpenNowhere}
 use Rattle.sockets.specs.declared.side.Side.{Side}
 use Rattle.sockets.specs.declared.upstream.Upstream.{Upstream}
 use Rattle.sockets.specs.declared.connections.Sockets.{Sockets}
@@ -13,6 +10,10 @@ use Rattle.sockets.specs.declared.connections.Sockets.{Sockets}
 pub record Grows (old new : List ℕ) : Type 0 where
   pub more : List ℕ
   pub is : new ≡ old ++ more
+
+-- What stood in a queue stands in another.
+abbrev pub StandsIn : List ℕ → List ℕ → Type 0
+StandsIn a b = (x : ℕ) → Contains a x → Contains b x
 
 -- it took octets of which wasn't told
 abbrev pub took_untold : {S : Type 0} → Option (Side S) → Bool
@@ -53,11 +54,6 @@ HasQueued sockets = AreQueued sockets.ready.items sockets.writes.items sockets.i
 abbrev pub HadQueued : {N S Stream Listener : Type 0} → ℕ → Sockets N S Stream Listener → Type 0
 HadQueued number sockets = AreQueued (number ∷ sockets.ready.items) sockets.writes.items sockets.is_client_queued sockets.client sockets.upstreams.items
 
--- A connection that is opened has a number of its own, which isn't the client's.
-abbrev pub OpensAnew : {S : Type 0} → Output → List (Upstream S) → Type 0
-OpensAnew (Open k route) upstreams = (0 < k) × IsOpenNowhere k upstreams
-OpensAnew output upstreams = ⊤
-
 -- whether a number is the client's
 abbrev pub is_clients : ℕ → Bool
 is_clients number = number == 0
@@ -66,6 +62,15 @@ is_clients number = number == 0
 abbrev pub client_last : List ℕ → List ℕ
 client_last numbers = filter (λ number. not (is_clients number)) numbers ++ (if list_any is_clients numbers then 0 ∷ [] else [])
 
--- Octets came of the client since all sockets were last looked at, and it stands among those to be read, though connections are open.
+-- Octets came of the client since all sockets were last looked at, and it stands among those to be read.
+abbrev pub is_late : {N S Stream Listener : Type 0} → Sockets N S Stream Listener → Bool
+is_late sockets = (sockets.heard_at == sockets.looks) && sockets.is_client_queued
+
+-- It is so, though connections are open.
 abbrev pub is_behind : {N S Stream Listener : Type 0} → Sockets N S Stream Listener → Bool
-is_behind sockets = (sockets.is_client_heard && sockets.is_client_queued) && not (length sockets.upstreams.items == 0)
+is_behind sockets = is_late sockets && not (length sockets.upstreams.items == 0)
+
+-- whether the number in front is the client's
+abbrev pub is_clients_turn : List ℕ → Bool
+is_clients_turn [] = false
+is_clients_turn (number ∷ numbers) = is_clients number

@@ -2,19 +2,20 @@
 //! was taken, and what an output does.
 
 ghost use Rattle.std.specs.Prelude.{◌≡◌, ◌+◌, ◌<◌, ℕ, None, Option, Some, Ok, Err, [], false, true, List, IfSome, IfOk};
-ghost use Rattle.std.specs.Prelude.{IsOkAnd, OnOk, OnErr, ◌&&◌, ◌||◌, not, slice_get};
+ghost use Rattle.std.specs.Prelude.{IsOkAnd, OnOk, OnErr, ◌&&◌, ◌||◌, ◌==◌, if◌then◌else◌, not, slice_get};
 ghost use Rattle.sockets.specs.Performed.{AreRising, IsOpenNowhere, Opens, Changes, SendsTo, Performs, Leaves, MovesOn};
 ghost use Rattle.sockets.specs.Performed.{Fits, client_heard, got_news, IsWithin, is_failed};
 ghost use Rattle.sockets.specs.Noting.{Notes};
 ghost use Rattle.sockets.specs.Tokens.{number_of_client, token_number, IsOfAnother, IsOfClient};
-ghost use Rattle.sockets.specs.Queues.{Grows, IsClientListed, HasQueued, HadQueued, OpensAnew, client_last, is_behind};
+ghost use Rattle.sockets.specs.Queues.{Grows, IsClientListed, HasQueued, HadQueued, client_last, is_late, is_behind};
+ghost use Rattle.sockets.specs.Idle.{HearsFirst, could_read, is_alone, is_held_back, is_of_client};
 ghost use Rattle.sockets.specs.Sides.{no_news, lost_news, noted, IsBegun, IsNew, Goes, KeepsHeard, SendsFront, may_go_on, may_be_ready, may_read};
 ghost use Rattle.std.specs.List.{Contains};
 
 use crate::buffer::Buffer;
 use crate::departure::leave_on;
 use crate::leaving::Leaving;
-use crate::queues::{heed, heed_all, join_ready, list, place_of};
+use crate::queues::{CLIENT, heed, heed_all, join_ready, list, place_of, take_next};
 use crate::reporting::{Reporting, number_in};
 use crate::rooms::room_of;
 use crate::side::Side;
@@ -38,9 +39,6 @@ const WRITTEN_AT_ONCE: usize = 32768;
 
 /// From so many octets on that the client took it is told at once, and else before the world waits.
 const TOLD_AT_ONCE: u64 = 16384;
-
-/// The client's number among the sockets. Connections to upstreams count from 1.
-const CLIENT: u32 = 0;
 
 /// Of so many turns one begins with a look at all sockets, and one in the middle with what they
 /// took, though something else is there: so none keeps the others from theirs.
@@ -68,8 +66,10 @@ pub(crate) struct Sockets<'a, N: Net + Clock, S> {
     pub(crate) buffer: Buffer,
     /// How many turns there were, from 0 on again behind the last number.
     turns: u32,
-    /// Octets came of the client since all sockets were last looked at.
-    is_client_heard: bool,
+    /// A number that a look at all sockets changes, if octets of the client came since the last one.
+    looks: u64,
+    /// What that number was when octets of the client came last.
+    heard_at: u64,
 }
 
 impl<'a, N: Net + Clock, S: Wire> Sockets<'a, N, S> {
@@ -101,46 +101,58 @@ impl<'a, N: Net + Clock, S: Wire> Sockets<'a, N, S> {
             writes: VecDeque::new(alloc),
             buffer,
             turns: 0,
-            is_client_heard: false,
+            looks: 1,
+            heard_at: 0,
         })
     }
 
     /// What comes next. Where nothing is there the world waits once, until something is reported,
     /// unless it is told of that.
-    pub(crate) fn find_next(&mut self, rooms: &[(u32, usize)]) -> Result<Option<Event>, WorldFault>
+    /// Octets of the client come only where nothing may be read of a connection that is idle.
+    pub(crate) fn find_next(
+        &mut self,
+        rooms: &[(u32, usize)],
+        idle: &[u32],
+    ) -> Result<Option<Event>, WorldFault>
         ensures moves { MovesOn S.left S.held result self.old.client self.old.upstreams.items self.new.client self.new.upstreams.items }
         ensures fits { IfOk result (λ event. Fits rooms.now event) }
         ensures queued { OnOk result (HasQueued self.old → HasQueued self.new) }
+        ensures first { IfOk result (λ event. HasQueued self.old → HearsFirst idle.now event self.old self.new) }
     {
-        if let Some(event) = self.find_aside(rooms)? {
+        if let Some(event) = self.find_aside(rooms, idle)? {
             return Ok(Some(event));
         }
-        if let Some(event) = self.find_event(rooms)? {
+        if let Some(event) = self.find_event(rooms, idle)? {
             return Ok(Some(event));
         }
         if self.reporting.is_shared() {
             return Ok(None);
         }
         self.look(None)?;
-        self.find_event(rooms)
+        self.find_event(rooms, idle)
     }
 
     /// In some turns an event that else would have to wait as long as others are there: of a socket
     /// that wasn't looked at yet, or what was taken.
-    fn find_aside(&mut self, rooms: &[(u32, usize)]) -> Result<Option<Event>, WorldFault>
+    fn find_aside(
+        &mut self,
+        rooms: &[(u32, usize)],
+        idle: &[u32],
+    ) -> Result<Option<Event>, WorldFault>
         ensures moves { MovesOn S.left S.held result self.old.client self.old.upstreams.items self.new.client self.new.upstreams.items }
         ensures fits { IfOk result (λ event. Fits rooms.now event) }
         ensures queued { OnOk result (HasQueued self.old → HasQueued self.new) }
+        ensures first { IfOk result (λ event. HasQueued self.old → HearsFirst idle.now event self.old self.new) }
     {
         self.turns = self.turns.wrapping_add(1);
         if self.turns % ROUND == 0 {
             self.look(Some(Duration::ZERO))?;
-            return self.read_ready(rooms);
+            return self.read_ready(rooms, idle);
         }
         if let Some(event) = self.tell_in_turn() {
             return Ok(Some(event));
         }
-        self.look_ahead()?;
+        self.look_ahead(idle)?;
         Ok(None)
     }
 
@@ -149,6 +161,8 @@ impl<'a, N: Net + Clock, S: Wire> Sockets<'a, N, S> {
         ensures moves { MovesOn S.left S.held (Ok result) self.old.client self.old.upstreams.items self.new.client self.new.upstreams.items }
         ensures fits { (rooms : List (ℕ × ℕ)) → Fits rooms result }
         ensures queued { HasQueued self.old → HasQueued self.new }
+        ensures heard { self.new.heard_at ≡ self.old.heard_at }
+        ensures told { is_of_client result ≡ false }
     {
         if self.turns % ROUND == ROUND / 2 {
             return self.tell();
@@ -156,54 +170,88 @@ impl<'a, N: Net + Clock, S: Wire> Sockets<'a, N, S> {
         None
     }
 
-    /// Looks at all sockets before the client is read again, where connections are open: one that
+    /// Looks at all sockets before the client is read again, where connections are idle: one that
     /// its server ended while it was idle is closed before a request comes that would go out on it.
-    fn look_ahead(&mut self) -> Result<(), WorldFault>
+    fn look_ahead(&mut self, idle: &[u32]) -> Result<(), WorldFault>
         ensures moves { MovesOn S.left S.held (Ok None) self.old.client self.old.upstreams.items self.new.client self.new.upstreams.items }
         ensures queued { OnOk result (HasQueued self.old → HasQueued self.new) }
+        ensures heard { self.new.heard_at ≡ self.old.heard_at }
+        ensures looked { OnOk result (is_alone self.old.reporting ≡ true → is_held_back idle.now self.new ≡ true → self.new.is_client_queued ≡ false) }
     {
-        if self.is_behind() {
+        if self.is_client_queued && self.is_held_back(idle) {
             return self.look(Some(Duration::ZERO));
         }
         Ok(())
     }
 
-    /// Whether the client is to be read again, and all sockets weren't looked at since it was read,
-    /// though connections are open.
+    /// Whether the client isn't read before all sockets were looked at: octets of it came since the
+    /// last time, and connections are idle.
+    fn is_held_back(&self, idle: &[u32]) -> bool
+        ensures { result ≡ is_held_back idle.now self.now }
+    {
+        self.waits_for_look() && !idle.is_empty()
+    }
+
+    /// Whether octets of the client came since all sockets were last looked at.
+    fn waits_for_look(&self) -> bool
+        ensures { result ≡ (self.now.heard_at == self.now.looks) }
+    {
+        self.heard_at == self.looks
+    }
+
+    /// Whether the client is to be read again, and all sockets weren't looked at since it was read.
+    pub(crate) fn is_late(&self) -> bool
+        ensures { result ≡ is_late self.now }
+    {
+        self.waits_for_look() && self.is_client_queued
+    }
+
+    /// Whether it is so, though connections are open.
     pub(crate) fn is_behind(&self) -> bool
         ensures { result ≡ is_behind self.now }
     {
-        self.is_client_heard && self.is_client_queued && !self.upstreams.is_empty()
+        self.is_late() && !self.upstreams.is_empty()
     }
 
     /// An event that is there already. Where nothing may be read any more, what waits for the client is written.
-    fn find_event(&mut self, rooms: &[(u32, usize)]) -> Result<Option<Event>, WorldFault>
+    fn find_event(
+        &mut self,
+        rooms: &[(u32, usize)],
+        idle: &[u32],
+    ) -> Result<Option<Event>, WorldFault>
         ensures moves { MovesOn S.left S.held result self.old.client self.old.upstreams.items self.new.client self.new.upstreams.items }
         ensures fits { IfOk result (λ event. Fits rooms.now event) }
         ensures queued { OnOk result (HasQueued self.old → HasQueued self.new) }
+        ensures first { IfOk result (λ event. HasQueued self.old → HearsFirst idle.now event self.old self.new) }
     {
         let count = self.client.tell(TOLD_AT_ONCE);
         if count > 0 {
             return Ok(Some(Event::ClientTook(count)));
         }
-        if let Some(event) = self.read_ready(rooms)? {
+        if let Some(event) = self.read_ready(rooms, idle)? {
             return Ok(Some(event));
         }
         self.client.flush(self.reporting.registry())?;
         Ok(self.tell())
     }
 
-    /// The event that a read gives, of the first socket in turn whose read gives one.
-    fn read_ready(&mut self, rooms: &[(u32, usize)]) -> Result<Option<Event>, WorldFault>
+    /// The event that a read gives, of the first socket in turn whose read gives one; connections
+    /// that are idle come before the client.
+    fn read_ready(
+        &mut self,
+        rooms: &[(u32, usize)],
+        idle: &[u32],
+    ) -> Result<Option<Event>, WorldFault>
         ensures moves { MovesOn S.left S.held result self.old.client self.old.upstreams.items self.new.client self.new.upstreams.items }
         ensures fits { IfOk result (λ event. Fits rooms.now event) }
         ensures queued { OnOk result (HasQueued self.old → HasQueued self.new) }
+        ensures first { IfOk result (λ event. HasQueued self.old → HearsFirst idle.now event self.old self.new) }
     {
         for _ in 0..self.ready.len() {
-            let Some(number) = self.ready.pop_front() else {
+            let Some(number) = take_next(&mut self.ready, idle) else {
                 return Ok(None);
             };
-            let event = self.read(number, rooms)?;
+            let event = self.read(number, rooms, idle)?;
             if event.is_some() {
                 return Ok(event);
             }
@@ -211,17 +259,28 @@ impl<'a, N: Net + Clock, S: Wire> Sockets<'a, N, S> {
         Ok(None)
     }
 
-    /// The event that a read of a socket gives, if it gives one.
-    fn read(&mut self, number: u32, rooms: &[(u32, usize)]) -> Result<Option<Event>, WorldFault>
+    /// The event that a read of a socket gives, if it gives one. The client isn't read where all
+    /// sockets have to be looked at before: it stays among those to be read.
+    fn read(
+        &mut self,
+        number: u32,
+        rooms: &[(u32, usize)],
+        idle: &[u32],
+    ) -> Result<Option<Event>, WorldFault>
         ensures moves { MovesOn S.left S.held result self.old.client self.old.upstreams.items self.new.client self.new.upstreams.items }
         ensures fits { IfOk result (λ event. Fits rooms.now event) }
         ensures queued { OnOk result (HadQueued number self.old → HasQueued self.new) }
+        ensures first { IfOk result (λ event. ((k : ℕ) → number ≡ 0 → Contains idle.now k → could_read self.old.upstreams.items k ≡ false)
+            → HearsFirst idle.now event self.old self.new) }
     {
-        if number == CLIENT {
-            self.read_client()
-        } else {
-            self.read_upstream(number, rooms)
+        if number != CLIENT {
+            return self.read_upstream(number, rooms);
         }
+        if self.is_held_back(idle) {
+            self.ready.push_back(number)?;
+            return Ok(None);
+        }
+        self.read_client()
     }
 
     /// The event that a read of an upstream gives, if it gives one. Then, and where there is no
@@ -234,6 +293,8 @@ impl<'a, N: Net + Clock, S: Wire> Sockets<'a, N, S> {
         ensures moves { MovesOn S.left S.held result self.old.client self.old.upstreams.items self.new.client self.new.upstreams.items }
         ensures fits { IfOk result (λ event. Fits rooms.now event) }
         ensures queued { OnOk result (0 < number → HadQueued number self.old → HasQueued self.new) }
+        ensures heard { self.new.heard_at ≡ self.old.heard_at }
+        ensures told { IfOk result (λ event. is_of_client event ≡ false) }
     {
         let Some(place) = place_of(number, &self.upstreams) else {
             return Ok(None);
@@ -255,10 +316,12 @@ impl<'a, N: Net + Clock, S: Wire> Sockets<'a, N, S> {
         ensures moves { MovesOn S.left S.held result self.old.client self.old.upstreams.items self.new.client self.new.upstreams.items }
         ensures fits { IfOk result (λ event. (rooms : List (ℕ × ℕ)) → Fits rooms event) }
         ensures queued { OnOk result (HadQueued 0 self.old → HasQueued self.new) }
+        ensures looks { self.new.looks ≡ self.old.looks }
+        ensures heard { IfOk result (λ event. self.new.heard_at ≡ (if is_of_client event then self.old.looks else self.old.heard_at)) }
     {
         self.is_client_queued = false;
         let got = self.read_of_client()?;
-        self.is_client_heard = self.is_client_heard || matches!(got, Got::Octets(_));
+        self.heard_at = heard_behind(&got, self.looks, self.heard_at);
         self.queue_client()?;
         Ok(client_event(got))
     }
@@ -273,6 +336,7 @@ impl<'a, N: Net + Clock, S: Wire> Sockets<'a, N, S> {
         ensures read { may_read 1073741824 self.old.client ≡ true → IfOk result (λ got. self.new.client.readable ≡ may_go_on got) }
         ensures unread { may_read 1073741824 self.old.client ≡ false → IsOkAnd result (λ got. got ≡ Got.Nothing) × (self.new.client ≡ self.old.client) }
         ensures queues { (self.new.ready ≡ self.old.ready) × (self.new.writes ≡ self.old.writes) × (self.new.is_client_queued ≡ self.old.is_client_queued) }
+        ensures heard { (self.new.heard_at ≡ self.old.heard_at) × (self.new.looks ≡ self.old.looks) }
     {
         if self.may_read_client() {
             return Ok(self.buffer.read(self.alloc, &mut self.client)?);
@@ -296,6 +360,7 @@ impl<'a, N: Net + Clock, S: Wire> Sockets<'a, N, S> {
         ensures ready { Grows self.old.ready.items self.new.ready.items }
         ensures listed { OnOk result ((self.old.is_client_queued ≡ true → Contains self.old.ready.items 0)
             → IsClientListed self.new.ready.items self.new.is_client_queued self.new.client) }
+        ensures heard { (self.new.heard_at ≡ self.old.heard_at) × (self.new.looks ≡ self.old.looks) }
     {
         if self.client_joins() {
             self.is_client_queued = true;
@@ -318,6 +383,8 @@ impl<'a, N: Net + Clock, S: Wire> Sockets<'a, N, S> {
         ensures moves { MovesOn S.left S.held (Ok result) self.old.client self.old.upstreams.items self.new.client self.new.upstreams.items }
         ensures fits { (rooms : List (ℕ × ℕ)) → Fits rooms result }
         ensures queued { HasQueued self.old → HasQueued self.new }
+        ensures heard { self.new.heard_at ≡ self.old.heard_at }
+        ensures told { is_of_client result ≡ false }
     {
         for _ in 0..self.writes.len() {
             let k = self.writes.pop_front()?;
@@ -340,6 +407,8 @@ impl<'a, N: Net + Clock, S: Wire> Sockets<'a, N, S> {
     fn look(&mut self, most: Option<Duration>) -> Result<(), WorldFault>
         ensures moves { MovesOn S.left S.held (Ok None) self.old.client self.old.upstreams.items self.new.client self.new.upstreams.items }
         ensures queued { OnOk result (HasQueued self.old → HasQueued self.new) }
+        ensures heard { self.new.heard_at ≡ self.old.heard_at }
+        ensures looked { OnOk result (is_alone self.old.reporting ≡ true → (self.new.heard_at == self.new.looks) ≡ false) }
     {
         let Reporting::Own(own) = &mut self.reporting else {
             return Ok(());
@@ -368,11 +437,12 @@ impl<'a, N: Net + Clock, S: Wire> Sockets<'a, N, S> {
         ensures client { self.new.client ≡ self.old.client }
         ensures writes { self.new.writes ≡ self.old.writes }
         ensures queued { self.new.is_client_queued ≡ self.old.is_client_queued }
-        ensures heard { self.new.is_client_heard ≡ false }
+        ensures heard { self.new.heard_at ≡ self.old.heard_at }
+        ensures looked { (self.new.heard_at == self.new.looks) ≡ false }
         ensures ready { self.new.ready.items ≡ client_last self.old.ready.items }
         ensures stand { (number : ℕ) → Contains self.old.ready.items number → Contains self.new.ready.items number }
     {
-        self.is_client_heard = false;
+        self.looks = look_behind(self.looks, self.heard_at);
         let count = self.ready.len();
         self.ready.retain(|number| *number != CLIENT);
         if self.ready.len() < count {
@@ -473,20 +543,32 @@ impl<'a, N: Net + Clock, S: Wire> Sockets<'a, N, S> {
         Ok(())
     }
 
-    /// Opens a connection to its route's address. One that can't be made fails at a later `next`.
+    /// Opens a connection to its route's address. One that can't be made fails at a later `next`. An
+    /// `Err` says that memory was refused, or that the number is the client's or that of a connection
+    /// that is open.
     fn open(&mut self, k: u32, route: u32) -> Result<(), WorldFault>
         ensures client { self.new.client ≡ self.old.client }
         ensures opens { OnOk result (Opens (IsNew (number_of_client self.old.reporting) k
             (slice_get self.old.addresses.now route)) self.old.upstreams.items self.new.upstreams.items) }
         ensures err { OnErr result (self.new.upstreams.items ≡ self.old.upstreams.items) }
         ensures rising { AreRising self.old.upstreams.items → AreRising self.new.upstreams.items }
-        ensures queued { OnOk result (0 < k → IsOpenNowhere k self.old.upstreams.items → HasQueued self.old → HasQueued self.new) }
+        ensures queued { OnOk result (HasQueued self.old → HasQueued self.new) }
     {
+        if !self.may_open(k) {
+            return Err(WorldFault {});
+        }
         let mut upstream = self.begin(k, address_of(route, self.addresses))?;
         list(&mut upstream, &mut self.ready, &mut self.writes)?;
         let place = self.upstreams.partition_point(|other| other.k < k);
         self.upstreams.insert(place, upstream)?;
         Ok(())
+    }
+
+    /// Whether a number is neither the client's nor that of a connection that is open.
+    fn may_open(&self, k: u32) -> bool
+        ensures { result ≡ true → (0 < k) × (AreRising self.now.upstreams.items → IsOpenNowhere k self.now.upstreams.items) }
+    {
+        k != CLIENT && place_of(k, &self.upstreams).is_none()
     }
 
     /// Begins a connection to an address, if there is one.
@@ -541,7 +623,7 @@ impl<'a, N: Net + Clock, S: Wire> Sockets<'a, N, S> {
             (number_of_client self.old.reporting) self.old.addresses.now output.now self.old.client self.old.upstreams.items self.new.client
             self.new.upstreams.items) }
         ensures leaves { OnErr result (Leaves S.left S.held output.now self.old.client self.old.upstreams.items self.new.client self.new.upstreams.items) }
-        ensures queued { OnOk result (OpensAnew output.now self.old.upstreams.items → HasQueued self.old → HasQueued self.new) }
+        ensures queued { OnOk result (HasQueued self.old → HasQueued self.new) }
     {
         match output {
             Output::Client(octets) => match self.client.put(self.reporting.registry(), octets) {
@@ -582,6 +664,28 @@ fn client_event(got: Got) -> Option<Event>
         Got::Octets(piece) => Some(Event::Client(piece)),
         Got::End => Some(Event::ClientEnd),
         Got::Nothing => None,
+    }
+}
+
+/// The number of the last look at all sockets, where one is made behind these that came last: it
+/// differs from that at which octets of the client came.
+fn look_behind(looks: u64, heard_at: u64) -> u64
+    ensures { (heard_at == result) ≡ false }
+{
+    if looks == heard_at {
+        looks.wrapping_add(1)
+    } else {
+        looks
+    }
+}
+
+/// The number of the last look when octets of the client came last, where a read of it gave this.
+fn heard_behind(got: &Got, looks: u64, heard_at: u64) -> u64
+    ensures { result ≡ (if is_of_client (client_heard got.now) then looks else heard_at) }
+{
+    match got {
+        Got::Octets(_) => looks,
+        Got::Nothing | Got::End => heard_at,
     }
 }
 

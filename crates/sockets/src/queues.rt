@@ -1,9 +1,9 @@
 //! The queues of upstreams of which something may be read, and of those that may have taken octets.
 
-ghost use Rattle.std.specs.Prelude.{◌≡◌, ◌<◌, Option, Some, Ok, true, length, IfSome, IfNone, OnOk, get_or};
+ghost use Rattle.std.specs.Prelude.{◌≡◌, ◌<◌, ◌∷◌, ℕ, Option, Some, Ok, true, false, length, IfSome, IfNone, OnOk, get_or};
 ghost use Rattle.sockets.specs.Performed.{AreRising, IsOpenNowhere, AllGoOn};
 ghost use Rattle.sockets.specs.Noting.{NotesOne};
-ghost use Rattle.sockets.specs.Queues.{Grows, IsMarked, IsListed, AllListed};
+ghost use Rattle.sockets.specs.Queues.{Grows, StandsIn, IsMarked, IsListed, AllListed, is_clients_turn};
 ghost use Rattle.sockets.specs.Sides.{no_news, may_be_ready, owes};
 ghost use Rattle.std.specs.List.{Contains};
 
@@ -14,6 +14,59 @@ use driver::WorldFault;
 use mio::event::Event as Report;
 use mio::{Events, Registry};
 use std::collections::VecDeque;
+
+/// The client's number among the sockets. Connections to upstreams count from 1.
+pub(crate) const CLIENT: u32 = 0;
+
+/// Takes the number of the socket that is read next, if there is one: where it is the client's turn
+/// the first of those behind it that is an idle connection, and else the one in front.
+pub(crate) fn take_next(ready: &mut VecDeque<u32>, idle: &[u32]) -> Option<u32>
+    ensures stand { IfSome result (λ number. StandsIn ready.old.items (number ∷ ready.new.items)) }
+    ensures none { IfNone result (ready.new.items ≡ ready.old.items) }
+    ensures first { result ≡ Some 0 → (k : ℕ) → 0 < k → Contains idle.now k → Contains ready.new.items k → ⊥ }
+{
+    if !is_clients_turn(ready) {
+        return ready.pop_front();
+    }
+    match idle_among(ready, idle) {
+        Some(place) => ready.remove(place),
+        None => ready.pop_front(),
+    }
+}
+
+/// Whether the client stands in front.
+fn is_clients_turn(ready: &VecDeque<u32>) -> bool
+    ensures { result ≡ is_clients_turn ready.now.items }
+{
+    match ready.front() {
+        Some(number) => *number == CLIENT,
+        None => false,
+    }
+}
+
+/// The place of the first idle connection among these.
+fn idle_among(ready: &VecDeque<u32>, idle: &[u32]) -> Option<usize>
+    ensures some { IfSome result (λ place. (place < length ready.now.items) × (0 < get_or ready.now.items place 0)) }
+    ensures none { IfNone result ((k : ℕ) → 0 < k → Contains idle.now k → Contains ready.now.items k → ⊥) }
+{
+    if idle.is_empty() {
+        return None;
+    }
+    for place in 0..ready.len() {
+        if is_among(ready[place], idle) {
+            return Some(place);
+        }
+    }
+    None
+}
+
+/// Whether this number is that of a connection among these.
+fn is_among(number: u32, idle: &[u32]) -> bool
+    ensures yes { result ≡ true → 0 < number }
+    ensures no { result ≡ false → 0 < number → Contains idle.now number → ⊥ }
+{
+    number != CLIENT && idle.contains(&number)
+}
 
 /// The place of a connection.
 pub(crate) fn place_of<S>(k: u32, upstreams: &[Upstream<S>]) -> Option<usize>

@@ -1,8 +1,8 @@
 //! One poll for the sockets of a world, or of many.
 
-ghost use Rattle.std.specs.Prelude.{◌≡◌, ◌≢◌, [], IfOk, IfErr, OnErr};
+ghost use Rattle.std.specs.Prelude.{◌≡◌, ◌≢◌, ◌==◌, [], length, IfOk, IfErr, OnErr};
 ghost use Rattle.std.specs.IoError.{error_kind};
-ghost use Rattle.mio.specs.Events.{items};
+ghost use Rattle.mio.specs.Events.{items, capacity};
 
 use mio::{Events, Poll, Registry};
 use std::alloc::Global;
@@ -11,10 +11,10 @@ use std::io::ErrorKind;
 use std::net::Net;
 use std::time::Duration;
 
-/// How many sockets may be reported at once: of many worlds, and of one.
+/// How many sockets may be reported at once: of many worlds, and of one, which are all that it has.
 const REPORTS: usize = 1024;
 
-const REPORTS_OF_ONE: usize = 128;
+const REPORTS_OF_ONE: usize = 512;
 
 /// One poll for the sockets of a world, or of many: it waits for all of them, and has what was
 /// reported, by tokens that say whose it is (`client_in`).
@@ -69,6 +69,13 @@ impl Reactor {
             Err(error) if error.kind() == ErrorKind::Interrupted => Ok(()),
             Err(error) => Err(error),
         }
+    }
+
+    /// Whether so many sockets were reported last that others may have something to report, too.
+    pub fn may_have_more(&self) -> bool
+        ensures { result ≡ (length (items self.now.reports) == capacity self.now.reports) }
+    {
+        self.reports.iter().count() == self.reports.capacity()
     }
 
     /// What was reported last.

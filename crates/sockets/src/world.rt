@@ -1,6 +1,6 @@
 //! The world of sockets.
 
-ghost use Rattle.std.specs.Prelude.{◌≡◌, ◌+◌, ◌<◌, ◌^◌, None, Some, Ok, Err, [], ◌∷◌, ◌++◌, false, true, List, IfOk, OnOk, OnErr, ◌||◌, is_ok, if◌then◌else◌};
+ghost use Rattle.std.specs.Prelude.{◌≡◌, ◌+◌, ◌<◌, ◌^◌, None, Some, Ok, Err, [], ◌∷◌, ◌++◌, false, true, not, List, IfOk, OnOk, OnErr, ◌&&◌, ◌||◌, is_ok, if◌then◌else◌};
 ghost use Rattle.model.specs.Logs.{Step};
 ghost use Rattle.effects.specs.Views.{output_of};
 ghost use Rattle.driver.specs.Worlds.{AddsEvent, AddsHanded, KeepsRooms, SaysOver, with_outputs};
@@ -8,7 +8,11 @@ ghost use Rattle.sockets.specs.Performed.{AreRising, Performs, Leaves, MovesOn, 
 ghost use Rattle.sockets.specs.Departing.{departing};
 ghost use Rattle.sockets.specs.Noting.{Notes};
 ghost use Rattle.sockets.specs.Tokens.{number_of_client, token_number, IsOfAnother, IsOfClient};
-ghost use Rattle.sockets.specs.Queues.{HasQueued, OpensAnew, client_last, is_behind};
+ghost use Rattle.sockets.specs.Queues.{HasQueued, client_last, is_late, is_behind};
+ghost use Rattle.sockets.specs.Idle.{could_read};
+ghost use Rattle.sockets.specs.Moves.{MovesBy};
+ghost use Rattle.driver.specs.Calls.{HearsIdleFirst};
+ghost use Rattle.driver.specs.Calls.Call.{Asked, Applied};
 ghost use Rattle.sockets.specs.Sides.{no_news, lost_news, IsBegun, Goes};
 
 use crate::buffer::Buffer;
@@ -37,7 +41,8 @@ pub struct SocketWorld<'a, N: Net + Clock, S> {
     sockets: Sockets<'a, N, S>,
     calls: u64,
     failures: u64,
-    /// Its last `next` said that nothing comes, and nothing was reported since.
+    /// Its last `next` said that nothing comes, no look at all sockets was due before the client is
+    /// read, and nothing was reported since.
     is_quiet: bool,
     /// Something came of the client, or its socket took something, since that was last asked.
     has_moved: bool,
@@ -105,8 +110,8 @@ impl<'a, N: Net + Clock, S: Wire> SocketWorld<'a, N, S> {
         }
     }
 
-    /// Whether its last `next` said that nothing comes, and nothing was reported since: then
-    /// nothing comes until something is.
+    /// Whether its last `next` said that nothing comes, no look at all sockets was due before the
+    /// client is read, and nothing was reported since: then nothing comes until something is.
     pub fn is_quiet(&self) -> bool
         ensures { result ≡ self.now.is_quiet }
     {
@@ -215,6 +220,10 @@ impl<'a, N: Net + Clock, S: Wire> SocketWorld<'a, N, S> {
 impl<'a, N: Net + Clock, S: Wire> World for SocketWorld<'a, N, S> {
     ghost use Rattle.std.specs.Prelude.{false, true};
     ghost use Rattle.sockets.specs.Performed.{no_log, none_handed};
+    ghost use Rattle.sockets.specs.Queues.{HasQueued};
+    ghost use Rattle.sockets.specs.Idle.{could_read};
+    ghost use Rattle.sockets.specs.Moves.{MovesBy};
+    ghost use Rattle.sockets.specs.Tokens.{number_of_client};
 
     ghost calls = { λ world. world.calls };
 
@@ -228,7 +237,19 @@ impl<'a, N: Net + Clock, S: Wire> World for SocketWorld<'a, N, S> {
 
     ghost keeps_rooms = { λ _. true };
 
-    fn next(&mut self, rooms: &[(u32, usize)]) -> Result<Next, WorldFault>
+    ghost moves = { λ old call new. MovesBy S.left S.held (number_of_client old.sockets.reporting) old.sockets.addresses.now call old.sockets.client
+        old.sockets.upstreams.items new.sockets.client new.sockets.upstreams.items };
+
+    // Its marks say the truth of what stands in its queues.
+    ghost hears_idle_first = { λ world. HasQueued world.sockets };
+
+    ghost could_read = { λ world k. could_read world.sockets.upstreams.items k };
+
+    ghost looks = { λ world. world.sockets.looks };
+
+    ghost heard_at = { λ world. world.sockets.heard_at };
+
+    fn next(&mut self, rooms: &[(u32, usize)], idle: &[u32]) -> Result<Next, WorldFault>
         requires calls { self.old.calls + 1 < 2 ^ 64 }
         requires failures { self.old.failures + 1 < 2 ^ 64 }
         ensures calls { self.new.calls ≡ self.old.calls + 1 }
@@ -236,7 +257,7 @@ impl<'a, N: Net + Clock, S: Wire> World for SocketWorld<'a, N, S> {
         ensures over { IfOk result (λ next. SaysOver next false) }
         // The trait's, of a world that tells no log.
         ensures log { IfOk result (λ next. AddsEvent no_log next no_log) }
-        ensures handed { OnOk result (AddsHanded no_log none_handed rooms.now none_handed) }
+        ensures handed { OnOk result (AddsHanded no_log none_handed rooms.now idle.now none_handed) }
         ensures err { OnErr result ((no_log ≡ no_log) × (none_handed ≡ none_handed)) }
         // Always, whatever an upstream sends.
         ensures rooms { true ≡ true → IfOk result (λ next. KeepsRooms rooms.now next) }
@@ -245,19 +266,23 @@ impl<'a, N: Net + Clock, S: Wire> World for SocketWorld<'a, N, S> {
         ensures moves { MovesOn S.left S.held (told_by result) self.old.sockets.client self.old.sockets.upstreams.items self.new.sockets.client
             self.new.sockets.upstreams.items }
         ensures fits { IfOk (told_by result) (λ event. Fits rooms.now event) }
-        ensures queued { OnOk result (HasQueued self.old.sockets → HasQueued self.new.sockets) }
-        ensures quiet { IfOk result (λ next. self.new.is_quiet ≡ is_nothing next) }
+        ensures moved_by { MovesBy S.left S.held (number_of_client self.old.sockets.reporting) self.old.sockets.addresses.now (Asked rooms.now idle.now result)
+            self.old.sockets.client self.old.sockets.upstreams.items self.new.sockets.client self.new.sockets.upstreams.items }
+        ensures idle_first { HasQueued self.old.sockets → IfOk result (λ next. HearsIdleFirst idle.now next
+            (λ k. could_read self.new.sockets.upstreams.items k) self.old.sockets.heard_at self.new.sockets.heard_at self.new.sockets.looks) }
+        ensures hears_on { OnOk result (HasQueued self.old.sockets → HasQueued self.new.sockets) }
+        ensures quiet { IfOk result (λ next. self.new.is_quiet ≡ (is_nothing next && not (is_late self.new.sockets))) }
         ensures moved { IfOk result (λ next. self.new.has_moved ≡ (self.old.has_moved || moves_client next)) }
     {
         self.calls += 1;
-        match self.sockets.find_next(rooms) {
+        match self.sockets.find_next(rooms, idle) {
             Ok(Some(event)) => {
                 self.is_quiet = false;
                 self.has_moved = self.has_moved || is_of_client(&event);
                 Ok(Next::Happened(event))
             }
             Ok(None) => {
-                self.is_quiet = true;
+                self.is_quiet = !self.sockets.is_late();
                 Ok(Next::Nothing)
             }
             Err(fault) => {
@@ -284,7 +309,9 @@ impl<'a, N: Net + Clock, S: Wire> World for SocketWorld<'a, N, S> {
             self.new.sockets.client self.new.sockets.upstreams.items) }
         ensures leaves { OnErr result (Leaves S.left S.held output.now self.old.sockets.client self.old.sockets.upstreams.items self.new.sockets.client
             self.new.sockets.upstreams.items) }
-        ensures queued { OnOk result (OpensAnew output.now self.old.sockets.upstreams.items → HasQueued self.old.sockets → HasQueued self.new.sockets) }
+        ensures moved_by { MovesBy S.left S.held (number_of_client self.old.sockets.reporting) self.old.sockets.addresses.now (Applied output.now result)
+            self.old.sockets.client self.old.sockets.upstreams.items self.new.sockets.client self.new.sockets.upstreams.items }
+        ensures hears_on { OnOk result (HasQueued self.old.sockets → HasQueued self.new.sockets) }
     {
         let applied = self.sockets.perform(output);
         if applied.is_err() {

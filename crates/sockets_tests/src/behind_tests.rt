@@ -18,29 +18,33 @@ const ROOMS: [(u32, usize); 1] = [(1, 65536)];
 /// There is none for the first upstream's, and some for the second's.
 const NO_ROOM: [(u32, usize); 2] = [(1, 0), (2, 65536)];
 
+/// The rooms of connections, and those that are idle.
+type Told<'a> = (&'a [(u32, usize)], &'a [u32]);
+
 /// What comes in turn, and whether the client is read behind connections after the first and the
 /// second of it.
 type Turns = ([Came; 3], [bool; 2]);
 
 /// What comes where the client sends an octet, and then another one while an upstream ends its
-/// connection.
+/// connection, by these rooms and with these connections idle.
 fn turns_around_an_end(
     world: &mut PlainWorld<'_>,
-    rooms: &[(u32, usize)],
+    told: Told<'_>,
     client: &mut TcpStream,
     upstream: TcpStream,
 ) -> io::Result<Turns>
     requires calls { world.old.calls + 3 < 2 ^ 64 }
     requires failures { world.old.failures + 3 < 2 ^ 64 }
 {
+    let (rooms, idle) = told;
     client.write_all(b"a")?;
-    let first = came_next(world, rooms);
+    let first = came_next(world, rooms, idle);
     let is_behind = world.is_behind();
     client.write_all(b"b")?;
     mem::drop(upstream);
-    let second = came_next(world, rooms);
+    let second = came_next(world, rooms, idle);
     let stays_behind = world.is_behind();
-    let third = came_next(world, rooms);
+    let third = came_next(world, rooms, idle);
     Ok(([first, second, third], [is_behind, stays_behind]))
 }
 
@@ -57,7 +61,7 @@ fn assert_end_comes_first(
 {
     open(world, 1, 0)?;
     let (upstream, _address) = listener.accept()?;
-    let turns = turns_around_an_end(world, &ROOMS, client, upstream)?;
+    let turns = turns_around_an_end(world, (&ROOMS, &[1]), client, upstream)?;
     let wanted = [Came::Client, Came::UpEnd(1), Came::Client];
     assert_eq!(rt; turns, (wanted, [true, false]));
     Ok(())
@@ -100,7 +104,7 @@ fn assert_end_is_not_kept_back(
     requires failures { world.old.failures + 3 < 2 ^ 64 }
 {
     let (_waits, upstream) = open_two(world, listener)?;
-    let (came, _behind) = turns_around_an_end(world, &NO_ROOM, client, upstream)?;
+    let (came, _behind) = turns_around_an_end(world, (&NO_ROOM, &[2]), client, upstream)?;
     assert_eq!(rt; came, [Came::Client, Came::UpEnd(2), Came::Client]);
     Ok(())
 }
@@ -137,15 +141,15 @@ fn turns_under_a_reactor(
 {
     client.write_all(b"a")?;
     tell(reactor, world)?;
-    let first = came_next(world, &ROOMS);
+    let first = came_next(world, &ROOMS, &[1]);
     let is_behind = world.is_behind();
     client.write_all(b"b")?;
     mem::drop(upstream);
     tell(reactor, world)?;
     world.catch_up();
     let stays_behind = world.is_behind();
-    let second = came_next(world, &ROOMS);
-    let third = came_next(world, &ROOMS);
+    let second = came_next(world, &ROOMS, &[1]);
+    let third = came_next(world, &ROOMS, &[1]);
     Ok(([first, second, third], [is_behind, stays_behind]))
 }
 

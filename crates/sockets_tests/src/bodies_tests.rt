@@ -198,7 +198,7 @@ struct Passage<'a> {
 }
 
 impl World for Passage<'_> {
-    ghost use Rattle.std.specs.Prelude.{None, false, true};
+    ghost use Rattle.std.specs.Prelude.{None, false, true, ⊤};
 
     ghost calls = { λ w. w.world.calls };
 
@@ -212,10 +212,20 @@ impl World for Passage<'_> {
 
     ghost keeps_rooms = { λ _. true };
 
-    fn next(&mut self, rooms: &[(u32, usize)]) -> Result<Next, WorldFault> {
+    ghost moves = { λ _ _ _. ⊤ };
+
+    ghost hears_idle_first = { λ _. ⊥ };
+
+    ghost could_read = { λ _ _. true };
+
+    ghost looks = { λ _. 0 };
+
+    ghost heard_at = { λ _. 0 };
+
+    fn next(&mut self, rooms: &[(u32, usize)], idle: &[u32]) -> Result<Next, WorldFault> {
         let _ = self.server.go_on();
         let _ = self.client.go_on();
-        self.world.next(rooms)
+        self.world.next(rooms, idle)
     }
 
     fn apply(&mut self, output: &Output) -> Result<(), WorldFault> {

@@ -73,7 +73,7 @@ fn came_and_quiet(world: &mut PlainWorld<'_>) -> (Came, bool)
     ensures calls { world.new.calls ≡ world.old.calls + 1 }
     ensures failures { world.new.failures ≤ world.old.failures + 1 }
 {
-    let came = came_next(world, &[]);
+    let came = came_next(world, &[], &[]);
     (came, world.is_quiet())
 }
 
@@ -84,7 +84,7 @@ fn is_given(world: &mut PlainWorld<'_>, octets: &[u8]) -> bool
     ensures calls { world.new.calls ≡ world.old.calls + 1 }
     ensures failures { world.new.failures ≤ world.old.failures + 1 }
 {
-    let next = world.next(&[]);
+    let next = world.next(&[], &[]);
     matches!(&next, Ok(Next::Happened(Event::Client(piece))) if piece.as_slice() == octets)
         && world.take_moved()
         && !world.take_moved()
@@ -151,9 +151,9 @@ fn assert_given_up(
     one.end_client()?;
     let others = tell(reactor, one, other)?;
     let came = [
-        came_next(one, &[]),
-        came_next(one, &[]),
-        came_next(one, &[]),
+        came_next(one, &[], &[]),
+        came_next(one, &[], &[]),
+        came_next(one, &[], &[]),
     ];
     let wanted = [Came::Client, Came::ClientEnd, Came::Nothing];
     assert_eq!(rt; (others, came), (0, wanted));

@@ -146,7 +146,7 @@ fn hear<S: Wire>(
     let mut octets = Vec::new(alloc);
     let mut end = None;
     for _turn in 0..20_u64 {
-        match world.next(&[(1, 65536)]) {
+        match world.next(&[(1, 65536)], &[]) {
             Ok(Next::Happened(Event::Up(1, piece) | Event::Client(piece))) =>
                 octets.extend_from_slice(&piece)?,
             Ok(Next::Happened(Event::UpEnd(1) | Event::ClientEnd)) => end = Some(End::Ended),
@@ -279,7 +279,7 @@ fn read_slowly(
         match socket.read(&mut room) {
             Ok(count) => read.extend_from_slice(&room[..count])?,
             Err(error) if error.kind() == ErrorKind::WouldBlock => {
-                let _ = world.next(&[(1, 65536)]);
+                let _ = world.next(&[(1, 65536)], &[]);
             }
             Err(error) => return Err(error),
         }

@@ -170,7 +170,7 @@ impl Peers {
 }
 
 impl World for Loopback<'_> {
-    ghost use Rattle.std.specs.Prelude.{None, false, true};
+    ghost use Rattle.std.specs.Prelude.{None, false, true, ⊤};
 
     ghost calls = { λ w. w.world.calls };
 
@@ -184,10 +184,20 @@ impl World for Loopback<'_> {
 
     ghost keeps_rooms = { λ _. true };
 
-    fn next(&mut self, rooms: &[(u32, usize)]) -> Result<Next, WorldFault> {
+    ghost moves = { λ _ _ _. ⊤ };
+
+    ghost hears_idle_first = { λ _. ⊥ };
+
+    ghost could_read = { λ _ _. true };
+
+    ghost looks = { λ _. 0 };
+
+    ghost heard_at = { λ _. 0 };
+
+    fn next(&mut self, rooms: &[(u32, usize)], idle: &[u32]) -> Result<Next, WorldFault> {
         let _ = self.peers.answer();
         let _ = self.peers.listen();
-        self.world.next(rooms)
+        self.world.next(rooms, idle)
     }
 
     fn apply(&mut self, output: &Output) -> Result<(), WorldFault> {
@@ -428,7 +438,10 @@ fn a_world_waits_until_something_comes(rt: HostRuntime) -> Result<(), Fail> {
     // The first try isn't answered. The next one, a second later, is refused, since nobody listens
     // any more: until then nothing comes.
     mem::drop(upstream);
-    assert_eq!(rt; came_next(&mut world, &[(1, 65536)]), Came::UpFailed(1));
+    assert_eq!(rt;
+        came_next(&mut world, &[(1, 65536)], &[]),
+        Came::UpFailed(1)
+    );
     Ok(())
 }
 
@@ -441,8 +454,8 @@ fn an_end_that_is_known_comes_before_the_clients_octets(rt: HostRuntime) -> Resu
     client.write_all(REQUEST)?;
     // The connection is accepted, and ended. So a request that comes then doesn't go out on it, were it an idle one.
     let is_called = is_called(&upstream);
-    let first = came_next(&mut world, &[(1, 65536)]);
-    let second = came_next(&mut world, &[]);
+    let first = came_next(&mut world, &[(1, 65536)], &[]);
+    let second = came_next(&mut world, &[], &[]);
     assert_eq!(rt;
         (is_called, first, second),
         (true, Came::UpEnd(1), Came::Client)

@@ -62,14 +62,14 @@ pub(crate) enum Came {
     Other,
 }
 
-/// What comes next of a world, where its connections have these rooms.
-pub(crate) fn came_next(world: &mut PlainWorld<'_>, rooms: &[(u32, usize)]) -> Came
+/// What comes next of a world, where its connections have these rooms, and these are idle.
+pub(crate) fn came_next(world: &mut PlainWorld<'_>, rooms: &[(u32, usize)], idle: &[u32]) -> Came
     requires calls { world.old.calls + 1 < 2 ^ 64 }
     requires failures { world.old.failures + 1 < 2 ^ 64 }
     ensures calls { world.new.calls ≡ world.old.calls + 1 }
     ensures failures { world.new.failures ≤ world.old.failures + 1 }
 {
-    match world.next(rooms) {
+    match world.next(rooms, idle) {
         Ok(Next::Happened(Event::Client(_))) => Came::Client,
         Ok(Next::Happened(Event::ClientEnd)) => Came::ClientEnd,
         Ok(Next::Happened(Event::UpEnd(number))) => Came::UpEnd(number),

@@ -2,6 +2,7 @@ use Rattle.std.proofs.Common.{Ok, refl, ap, ◌∙◌, arith, inr}
 use Rattle.driver.specs.Services.{outcome_of}
 use Rattle.driver.specs.declared.services.ServiceEnd.TheVariants.{Turns}
 use Rattle.driver.proofs.Adding.{serves_none, serves_run, same_fault, no_fault, hands_of}
+use Rattle.driver.proofs.Calling.{runs_none, served_ended}
 use Rattle.driver.proofs.services.serve_turns.Goals as goal
 
 pub loop-turn-init : goal.loop-turn-init
@@ -10,6 +11,7 @@ loop-turn-init g c = record {
   failures = refl;
   keeps_rooms = refl;
   going = c.requires.begins;
+  runs = λ setup at. runs_none _ _ _ _ _ setup c.args.world.now c.args.service.now.gateway c.args.service.now.rooms at.no_rooms at.stands;
   log = λ setup at before e. serves_none setup _ c.args.service.now.gateway c.args.service.now.rooms _ before e at.no_rooms at.stands;
 }
 
@@ -22,6 +24,7 @@ loop-turn-preserved g c = record {
   failures = c.in-Ok-None.ensures.failures ∙ c.loop-turn.invariant.failures;
   keeps_rooms = c.in-Ok-None.ensures.keeps_rooms ∙ c.loop-turn.invariant.keeps_rooms;
   going = c.in-Ok-None.ensures.outcome ∙ ap (λ o. outcome_of (Ok o)) c.in-Ok-None.field-0-is;
+  runs = λ setup at. (rw c.in-Ok-None.field-0-is at c.in-Ok-None.ensures.calls_are) c.loop-turn.invariant.going setup _ (c.loop-turn.invariant.runs setup at);
   log = λ setup at before e. (rw c.in-Ok-None.field-0-is at c.in-Ok-None.ensures.log) c.loop-turn.invariant.going setup before _ (c.loop-turn.invariant.log setup at before e);
 }
 
@@ -114,3 +117,14 @@ returns-clause-memory g c = λ e. absurd (no_fault _ _ e)
 
 pub returns-clause-failures : goal.returns-clause-failures
 returns-clause-failures g c = c.loop-turn.invariant.failures
+
+pub returns-in-Ok-Some-clause-calls_are : goal.returns-in-Ok-Some-clause-calls_are
+returns-in-Ok-Some-clause-calls_are g c = λ setup at.
+    served_ended _ _ _ _ _ setup _ _ c.take_turn.new.self.gateway c.take_turn.new.self.rooms _ c.in-Ok-Some.ended refl
+    ((rw c.in-Ok-Some.field-0-is at c.in-Ok-Some.ensures.calls_are) c.loop-turn.invariant.going setup _ (c.loop-turn.invariant.runs setup at))
+
+pub returns-in-Err-clause-calls_are : goal.returns-in-Err-clause-calls_are
+returns-in-Err-clause-calls_are g c = λ setup at. c.in-Err.ensures.calls_are c.loop-turn.invariant.going setup _ (c.loop-turn.invariant.runs setup at)
+
+pub returns-clause-calls_are : goal.returns-clause-calls_are
+returns-clause-calls_are g c = λ setup at. served_ended _ _ _ _ _ setup _ _ c.loop-turn.service.gateway c.loop-turn.service.rooms _ Turns refl (c.loop-turn.invariant.runs setup at)

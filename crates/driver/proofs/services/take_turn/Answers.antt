@@ -2,6 +2,7 @@ use Rattle.std.proofs.Common.{◌++◌, ◌∙◌, reverse}
 use Rattle.driver.proofs.Adding.{front_whole, may_not_come, same_fault, unanswered, serves_same, hands_one, hands_still, hands_step}
 use Rattle.driver.proofs.Fitting.{of_none}
 use Rattle.driver.specs.declared.services.Peer.TheVariants.{Upstream}
+use Rattle.driver.proofs.Calling.{runs_nothing, runs_over, served_failed, has_come}
 use Rattle.driver.proofs.services.take_turn.Goals as goal
 
 pub returns-in-Err-clause-front : goal.returns-in-Err-clause-front
@@ -12,25 +13,25 @@ returns-in-Err-clause-hands g c = λ setup before old s. hands_still setup _ _ _
 
 pub returns-in-Ok-Nothing-clause-log : goal.returns-in-Ok-Nothing-clause-log
 returns-in-Ok-Nothing-clause-log g c = λ setup before old s.
-    serves_same setup _ _ c.args.gateway.now c.args.rooms.now.items old _ _ before (rw c.in-Ok-Nothing.field-0-is at c.in-Ok-Nothing.ensures.log) (rw c.deref.ensures.value at c.in-Ok-Nothing.ensures.handed) s
+    serves_same setup _ _ c.args.gateway.now c.args.rooms.now.items c.idle.result.now old _ _ before (rw c.in-Ok-Nothing.field-0-is at c.in-Ok-Nothing.ensures.log) (rw c.deref.ensures.value at c.in-Ok-Nothing.ensures.handed) c.idle.ensures s
 
 pub returns-in-Ok-Nothing-clause-over : goal.returns-in-Ok-Nothing-clause-over
 returns-in-Ok-Nothing-clause-over g c = rw c.in-Ok-Nothing.field-0-is at c.in-Ok-Nothing.ensures.over
 
 pub returns-in-Ok-Over-clause-log : goal.returns-in-Ok-Over-clause-log
 returns-in-Ok-Over-clause-log g c = λ setup before old s.
-    serves_same setup _ _ c.args.gateway.now c.args.rooms.now.items old _ _ before (rw c.in-Ok-Over.field-0-is at c.in-Ok-Over.ensures.log) (rw c.deref.ensures.value at c.in-Ok-Over.ensures.handed) s
+    serves_same setup _ _ c.args.gateway.now c.args.rooms.now.items c.idle.result.now old _ _ before (rw c.in-Ok-Over.field-0-is at c.in-Ok-Over.ensures.log) (rw c.deref.ensures.value at c.in-Ok-Over.ensures.handed) c.idle.ensures s
 
 pub returns-in-Ok-true-clause-log : goal.returns-in-Ok-true-clause-log
 returns-in-Ok-true-clause-log g c = λ setup before old s.
     let came_in = (rw c.in-Ok-Happened.field-0-is at c.in-Ok-Happened.ensures.log) (before ++ s.added) s.is in
-    let hands = hands_one setup _ c.args.gateway.now c.args.rooms.now.items old _ _ before (rw c.deref.ensures.value at c.in-Ok-Happened.ensures.handed) s in
+    let hands = hands_one setup _ c.args.gateway.now c.args.rooms.now.items c.idle.result.now old _ _ before (rw c.deref.ensures.value at c.in-Ok-Happened.ensures.handed) c.idle.ensures s in
     (rw c.in-Ok-true.field-0-test at c.in-Ok-true.ensures.log) setup before s.added s.run old came_in s.stands s.has_closed_is s.rooms_are hands
 
 pub returns-in-Ok-false-clause-log : goal.returns-in-Ok-false-clause-log
 returns-in-Ok-false-clause-log g c = λ setup before old s.
     let came_in = (rw c.in-Ok-Happened.field-0-is at c.in-Ok-Happened.ensures.log) (before ++ s.added) s.is in
-    let hands = hands_one setup _ c.args.gateway.now c.args.rooms.now.items old _ _ before (rw c.deref.ensures.value at c.in-Ok-Happened.ensures.handed) s in
+    let hands = hands_one setup _ c.args.gateway.now c.args.rooms.now.items c.idle.result.now old _ _ before (rw c.deref.ensures.value at c.in-Ok-Happened.ensures.handed) c.idle.ensures s in
     (rw c.in-Ok-false.field-0-test at c.in-Ok-false.ensures.log) setup before s.added s.run old came_in s.stands s.has_closed_is s.rooms_are hands
 
 pub returns-clause-front : goal.returns-clause-front
@@ -59,7 +60,7 @@ returns-clause-upstreams g c = λ keeps k e.
 pub returns-clause-hands : goal.returns-clause-hands
 returns-clause-hands g c = λ setup before old s.
     let came_in = (rw c.in-Ok-Happened.field-0-is at c.in-Ok-Happened.ensures.log) (before ++ s.added) s.is in
-    let hands = hands_one setup _ c.args.gateway.now c.args.rooms.now.items old _ _ before (rw c.deref.ensures.value at c.in-Ok-Happened.ensures.handed) s in
+    let hands = hands_one setup _ c.args.gateway.now c.args.rooms.now.items c.idle.result.now old _ _ before (rw c.deref.ensures.value at c.in-Ok-Happened.ensures.handed) c.idle.ensures s in
     let adds = c.in-Err-take_event.ensures.adds (before ++ s.added) came_in in
     hands_step setup before s.added _ old _ _ _ adds.1 c.take_event.ensures.handed hands
 
@@ -69,3 +70,36 @@ returns-clause-memory g c = λ e.
       left.1 ∙ c.in-Ok-Happened.ensures.failures,
       λ setup before old s. unanswered setup _ _ _ _ c.args.gateway.now c.args.rooms.now.items old _ before _ left.0 s ((rw c.in-Ok-Happened.field-0-is at c.in-Ok-Happened.ensures.log) (before ++ s.added) s.is),
     )
+
+pub returns-in-Err-clause-calls_are : goal.returns-in-Err-clause-calls_are
+returns-in-Err-clause-calls_are g c = λ setup begun r.
+    served_failed _ _ _ _ _ setup begun c.args.world.now c.next.new.self c.args.gateway.now c.args.rooms.now.items c.idle.result.now c.idle.ensures r _
+    (record { moved = rw c.deref.ensures.value at c.in-Err.ensures.moves; idle_first = λ h. tt })
+
+pub returns-in-Ok-Nothing-clause-calls_are : goal.returns-in-Ok-Nothing-clause-calls_are
+returns-in-Ok-Nothing-clause-calls_are g c = λ setup begun r.
+    runs_nothing _ _ _ _ _ setup begun c.args.world.now c.next.new.self c.args.gateway.now c.args.rooms.now.items c.idle.result.now c.idle.ensures r
+    (record { moved = rw c.in-Ok-Nothing.field-0-is at (rw c.deref.ensures.value at c.in-Ok-Nothing.ensures.moves); idle_first = λ h. (rw c.in-Ok-Nothing.field-0-is at c.in-Ok-Nothing.ensures.idle_first) (r.hears_on h) }) c.in-Ok-Nothing.ensures.hears_on
+
+pub returns-in-Ok-Over-clause-calls_are : goal.returns-in-Ok-Over-clause-calls_are
+returns-in-Ok-Over-clause-calls_are g c = λ setup begun r.
+    runs_over _ _ _ _ _ setup begun c.args.world.now c.next.new.self c.args.gateway.now c.args.rooms.now.items c.idle.result.now c.idle.ensures r
+    (record { moved = rw c.in-Ok-Over.field-0-is at (rw c.deref.ensures.value at c.in-Ok-Over.ensures.moves); idle_first = λ h. (rw c.in-Ok-Over.field-0-is at c.in-Ok-Over.ensures.idle_first) (r.hears_on h) }) c.in-Ok-Over.ensures.hears_on
+
+pub returns-in-Ok-true-clause-calls_are : goal.returns-in-Ok-true-clause-calls_are
+returns-in-Ok-true-clause-calls_are g c = λ setup begun r.
+    let came_in = has_come _ _ _ _ _ setup begun c.args.world.now c.next.new.self c.args.gateway.now c.args.rooms.now.items c.idle.result.now c.idle.ensures r c.in-Ok-Happened.event
+    (record { moved = rw c.in-Ok-Happened.field-0-is at (rw c.deref.ensures.value at c.in-Ok-Happened.ensures.moves); idle_first = λ h. (rw c.in-Ok-Happened.field-0-is at c.in-Ok-Happened.ensures.idle_first) (r.hears_on h) }) c.in-Ok-Happened.ensures.hears_on in
+    (rw c.in-Ok-true.field-0-test at c.in-Ok-true.ensures.runs) setup begun came_in
+
+pub returns-in-Ok-false-clause-calls_are : goal.returns-in-Ok-false-clause-calls_are
+returns-in-Ok-false-clause-calls_are g c = λ setup begun r.
+    let came_in = has_come _ _ _ _ _ setup begun c.args.world.now c.next.new.self c.args.gateway.now c.args.rooms.now.items c.idle.result.now c.idle.ensures r c.in-Ok-Happened.event
+    (record { moved = rw c.in-Ok-Happened.field-0-is at (rw c.deref.ensures.value at c.in-Ok-Happened.ensures.moves); idle_first = λ h. (rw c.in-Ok-Happened.field-0-is at c.in-Ok-Happened.ensures.idle_first) (r.hears_on h) }) c.in-Ok-Happened.ensures.hears_on in
+    (rw c.in-Ok-false.field-0-test at c.in-Ok-false.ensures.runs) setup begun came_in
+
+pub returns-clause-calls_are : goal.returns-clause-calls_are
+returns-clause-calls_are g c = λ setup begun r.
+    let came_in = has_come _ _ _ _ _ setup begun c.args.world.now c.next.new.self c.args.gateway.now c.args.rooms.now.items c.idle.result.now c.idle.ensures r c.in-Ok-Happened.event
+    (record { moved = rw c.in-Ok-Happened.field-0-is at (rw c.deref.ensures.value at c.in-Ok-Happened.ensures.moves); idle_first = λ h. (rw c.in-Ok-Happened.field-0-is at c.in-Ok-Happened.ensures.idle_first) (r.hears_on h) }) c.in-Ok-Happened.ensures.hears_on in
+    c.in-Err-take_event.ensures.fails setup begun came_in

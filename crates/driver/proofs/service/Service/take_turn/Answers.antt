@@ -17,3 +17,6 @@ returns-in-None-clause-refused g c = rw (← c.self.view_is) (λ _. c.take_turn-
 
 pub returns-in-None-clause-memory : goal.returns-in-None-clause-memory
 returns-in-None-clause-memory g c = rw (← c.self.view_is) (λ _. c.take_turn-turn.ensures.memory)
+
+pub returns-in-None-clause-calls_are : goal.returns-in-None-clause-calls_are
+returns-in-None-clause-calls_are g c = rw (← c.self.view_is) (λ _. c.take_turn-turn.ensures.calls_are)

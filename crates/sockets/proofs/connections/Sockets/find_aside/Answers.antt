@@ -1,5 +1,6 @@
 use Rattle.std.specs.Prelude.{None, Ok}
 use Rattle.sockets.proofs.Moving.{moves_quiet, moves_twice, moves_failed}
+use Rattle.sockets.proofs.Idling.{hears_from, hears_other}
 use Rattle.sockets.proofs.connections.Sockets.find_aside.Goals as goal
 
 pub returns-then-self-eq0-clause-moves : goal.returns-then-self-eq0-clause-moves

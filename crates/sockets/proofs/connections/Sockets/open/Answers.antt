@@ -33,7 +33,10 @@ returns-clause-rising g c = λ up.
     (subst (λ us. AreRising (insert us place upstream)) c.deref.ensures.value (rising_insert seen place upstream c.args.k number facts.bound rising point))
 
 pub returns-clause-queued : goal.returns-clause-queued
-returns-clause-queued g c = λ up fresh before.
+returns-clause-queued g c = λ before.
+    let may = c.may_open.ensures c.if-not-may_open.false in
+    let up = may.0 in
+    let fresh = may.1 (numbers_rise 0 _ _ c.args.self.now.upstreams.items before.all_are) in
     let us = c.args.self.now.upstreams.items in
     let seen = c.deref.result.now in
     let upstream = c.list.new.upstream in

@@ -29,7 +29,7 @@ returns-in_default-clause-performs g c =
     rw c.in-Close.is (refl, λ up. inl (absent up, refl))
 
 pub returns-in-Some-clause-queued : goal.returns-in-Some-clause-queued
-returns-in-Some-clause-queued g c = λ opens before.
+returns-in-Some-clause-queued g c = λ before.
     let us = c.args.self.now.upstreams.items in
     let ready = c.args.self.now.ready.items in
     let writes = c.args.self.now.writes.items in

@@ -1,3 +1,4 @@
+use Rattle.std.proofs.Common.{◌≡◌}
 use Rattle.std.specs.Prelude.{None, Ok}
 use Rattle.sockets.specs.Performed.{MovesOn}
 use Rattle.sockets.specs.Queues.{HasQueued}
@@ -6,5 +7,6 @@ use Rattle.sockets.proofs.connections.Sockets.tell.Given as goal
 abbrev pub invariant-loop : goal.invariant-loop
 invariant-loop g l = record {
   moves : MovesOn g.S.Socket.left g.S.Socket.held (Ok None) l.fn.self.client l.fn.self.upstreams.items l.self.client l.self.upstreams.items;
+  heard : l.self.heard_at ≡ l.fn.self.heard_at;
   queued : HasQueued l.fn.self → HasQueued l.self;
 }

@@ -1,0 +1,8 @@
+//! Tests of kept connections over the loopback: a client's next request is on its way while an idle
+//! connection still has something to be read.
+//!
+//! There is nothing here but tests. They stand apart from `sockets_tests`, which takes long as it is.
+#![tactic(auto)]
+
+#[cfg(test)]
+mod kept_tests;

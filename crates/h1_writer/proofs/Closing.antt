@@ -9,7 +9,7 @@ use Rattle.std.proofs.Math.ListN.{drop_of_length-le}
 use Rattle.std.proofs.lemmas.List.{append-nil, take_all}
 use Rattle.model.specs.Messages.{Field}
 use Rattle.model.specs.Http1.{crlf}
-use Rattle.h1_writer.specs.Sending.{hex_digit, hex_size, chunk_text, last_chunk}
+use Rattle.model.specs.Http1Text.{hex_digit, hex_size, chunk_text, last_chunk}
 
 -- a size has sixteen digits at most
 pub few_digits : (size : ℕ) → size < 2 ^ 64 → length (hex_size size) ≤ 16

@@ -4,7 +4,7 @@ use Rattle.std.specs.Int.Digits.{digits_of}
 use Rattle.std.proofs.lemmas.List.{map-append}
 use Rattle.std.proofs.lemmas.Int.Digits.{digits_of_step}
 use Rattle.std.proofs.lemmas.Fmt.{decimal_step}
-use Rattle.h1_writer.specs.Sending.{hex_digit, hex_size}
+use Rattle.model.specs.Http1Text.{hex_digit, hex_size}
 
 -- one digit more at the end
 pub hex_more : (old : List ℕ) (n : ℕ) → 0 < n → (old ++ hex_size (n / 16)) ++ hex_digit (n % 16) ∷ [] ≡ old ++ hex_size n

@@ -8,7 +8,8 @@ use Rattle.std.proofs.lemmas.List.Concat.{flat_map-append}
 use Rattle.model.specs.Octets.{is_empty}
 use Rattle.model.specs.Messages.{Field}
 use Rattle.request_rules.specs.Heads.{HeadParts}
-use Rattle.h1_writer.specs.Sending.{Stage, Sending, SentWhole, SentCounting, SentHolding, SentChunking, Continues, MayPush, piece_of, chunk_text, last_chunk, content_of, head_of}
+use Rattle.h1_writer.specs.Sending.{Stage, Sending, SentWhole, SentCounting, SentHolding, SentChunking, Continues, MayPush, piece_of, head_of}
+use Rattle.model.specs.Http1Text.{chunk_text, last_chunk, content_of}
 use Rattle.h1_writer.specs.Sending.Stage.{Whole, Counting, Holding, Chunking}
 use Rattle.model.specs.Http2.{HasLength}
 

@@ -5,14 +5,14 @@ use Rattle.std.proofs.lemmas.List.{append-nil, nil_from_length, length-replicate
 use Rattle.std.proofs.lemmas.List.Concat.{flat_map-append}
 use Rattle.model.specs.Octets.{IsFront, IsStrictFront}
 use Rattle.model.specs.Http1.{BeginsNoRequest, forward, H1Kept}
-use Rattle.model.specs.Http1Text.{framing_of}
+use Rattle.model.specs.Http1Text.{framing_of, content_of, chunk_text, last_chunk}
 use Rattle.model.specs.Messages.{Field}
 use Rattle.model.specs.Http2.{HasLength, WellFormedTrailers, passed_trailers, trailers_beside}
 use Rattle.model.proofs.Http1Readings.{one_request}
 use Rattle.model.proofs.Http1Texts.{has_line, Frames, IsSendable, text_kept, kept_reads, no_framing}
 use Rattle.model.proofs.Http2Sends.{head_sendable, trailers_have_lines}
 use Rattle.request_rules.specs.Heads.{HeadParts, IsRequestHead, request_with}
-use Rattle.h1_writer.specs.Sending.{Stage, Sending, SentWhole, SentCounting, SentHolding, SentChunking, content_of, head_of, piece_of, chunk_text, last_chunk, GoesOnTo, HoldsAll, LacksAtMostOne, HasRoom, MayPush, MayFinish}
+use Rattle.h1_writer.specs.Sending.{Stage, Sending, SentWhole, SentCounting, SentHolding, SentChunking, head_of, piece_of, GoesOnTo, HoldsAll, LacksAtMostOne, HasRoom, MayPush, MayFinish}
 use Rattle.h1_writer.specs.Sending.Stage.{Whole, Counting, Holding, Chunking}
 use Rattle.h1_writer.proofs.Stages.{are_full, concat_more, more_full}
 use Rattle.h1_writer.proofs.Written.{length_frames, declared_fits, chunk_frames}

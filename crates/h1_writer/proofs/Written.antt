@@ -15,11 +15,10 @@ use Rattle.std.proofs.Math.Nat.{pow-le-pow_right}
 use Rattle.model.specs.Octets.{some_of, is_digit, is_hex_digit, is_visible, is_value, is_empty, Joined}
 use Rattle.model.specs.Messages.{Field}
 use Rattle.model.specs.Http1.{crlf, Chunk, Chunked}
-use Rattle.model.specs.Http1Text.{lines_text, framing_of}
+use Rattle.model.specs.Http1Text.{lines_text, framing_of, hex_digit, hex_size, chunk_text, last_chunk}
 use Rattle.model.specs.Http2.{promised, LengthFieldHolds, declared_length}
 use Rattle.model.proofs.Http1Runs.{run_of_some, run_weaker}
 use Rattle.model.proofs.Http1Texts.{Frames, has_line, lines_read, visible_is_value}
-use Rattle.h1_writer.specs.Sending.{hex_digit, hex_size, chunk_text, last_chunk}
 use Rattle.h1_writer.proofs.Stages.{are_full}
 
 -- ---- decimal lengths

@@ -1,11 +1,10 @@
 -- The text of a request as it is sent, piece by piece.
-use Rattle.std.specs.Prelude.{◌≡◌, not, ℕ, ◌+◌, ◌<◌, ◌≤◌, Bool, true, false, nat_lt, if◌then◌else◌, List, [], ◌∷◌, ◌++◌, length, map, codes, Option, Some, None}
+use Rattle.std.specs.Prelude.{◌≡◌, not, ℕ, ◌+◌, ◌<◌, ◌≤◌, Bool, true, false, List, [], ◌∷◌, ◌++◌, length, Option, Some, None}
 use Rattle.std.specs.List.{concat, flat_map, list_all}
-use Rattle.std.specs.Int.Digits.{digits_of}
 use Rattle.model.specs.Octets.{IsFront, IsStrictFront, is_empty}
-use Rattle.model.specs.Http1.{crlf, H1Kept, forward}
+use Rattle.model.specs.Http1.{H1Kept, forward}
 use Rattle.model.specs.Messages.{Field}
-use Rattle.model.specs.Http1Text.{lines_text, framing_of, head_text}
+use Rattle.model.specs.Http1Text.{framing_of, head_text, chunk_text, content_of}
 use Rattle.model.specs.Http2.{HasLength}
 use Rattle.request_rules.specs.Heads.{HeadParts, request_with}
 
@@ -29,32 +28,9 @@ held_back stage = 0
 abbrev pub most_line : ℕ
 most_line = 18
 
--- a digit in base sixteen, in lower case
-abbrev pub hex_digit : ℕ → ℕ
-hex_digit digit = if nat_lt digit 10 then 48 + digit else 87 + digit
-
--- a size above 0 in base sixteen, without leading zeros
-abbrev pub hex_size : ℕ → List ℕ
-hex_size size = map hex_digit (digits_of 16 size)
-
--- a chunk (RFC 9112, section 7.1)
-abbrev pub chunk_text : List ℕ → List ℕ
-chunk_text piece = hex_size (length piece) ++ crlf ++ piece ++ crlf
-
--- the last chunk, with these trailers (RFC 9112, section 7.1.2)
-abbrev pub last_chunk : List Field → List ℕ
-last_chunk trailers = codes "0" ++ crlf ++ lines_text trailers ++ crlf
-
 -- the text of a head that ended its stream or didn't, on a connection that is kept or isn't
 abbrev pub head_of : Bool → HeadParts → Bool → List ℕ
 head_of keep parts ended = head_text keep (request_with parts [] []) (framing_of parts.length ended)
-
--- what follows a head, for a body that came in these pieces, and trailers: chunks, with the trailers behind them, where no length was
--- declared, and else the body alone
-abbrev pub content_of : Option ℕ → Bool → List (List ℕ) → List Field → List ℕ
-content_of (Some declared) ended pieces trailers = concat pieces
-content_of None true pieces trailers = []
-content_of None false pieces trailers = flat_map chunk_text pieces ++ last_chunk trailers
 
 -- The whole text was sent, for a body of these pieces, and these trailers.
 pub record SentWhole (keep : Bool) (parts : HeadParts) (ended : Bool) (text : List ℕ) (pieces : List (List ℕ)) (trailers : List Field) : Type 0 where

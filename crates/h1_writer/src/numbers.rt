@@ -1,7 +1,7 @@
 //! Numbers as digits.
 
 ghost use Rattle.std.specs.Prelude.{◌≡◌, ◌<◌, ◌++◌, OnOk, decimal, take, length};
-ghost use Rattle.h1_writer.specs.Sending.{hex_digit, hex_size};
+ghost use Rattle.model.specs.Http1Text.{hex_digit, hex_size};
 
 use std::alloc::AllocError;
 

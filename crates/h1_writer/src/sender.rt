@@ -2,7 +2,8 @@
 
 ghost use Rattle.std.specs.Prelude.{◌≡◌, ◌<◌, ◌++◌, [], ◌∷◌, ℕ, List, true, false, OnOk, OnErr, IfOk, MatchBool, length, take, drop, ◌+◌, ◌≤◌};
 ghost use Rattle.model.specs.Http2.{HasLength};
-ghost use Rattle.h1_writer.specs.Sending.{Sending, Continues, MayPush, MayFinish, chunk_text, last_chunk, head_of, Begins};
+ghost use Rattle.h1_writer.specs.Sending.{Sending, Continues, MayPush, MayFinish, head_of, Begins};
+ghost use Rattle.model.specs.Http1Text.{chunk_text, last_chunk};
 ghost use Rattle.h1_writer.specs.Views.{stage_of};
 ghost use Rattle.h1_writer.specs.Sending.Stage.{Whole, Chunking};
 

@@ -1,7 +1,7 @@
 //! A request's text on its way to a server.
 
 ghost use Rattle.std.specs.Prelude.{◌≡◌, ◌+◌, ◌-◌, ◌≤◌, ◌<◌, ◌++◌, List, ℕ, length, take, drop, OnOk, OnErr, IfOk};
-ghost use Rattle.h1_writer.specs.Sending.{chunk_text, hex_size, last_chunk};
+ghost use Rattle.model.specs.Http1Text.{chunk_text, hex_size, last_chunk};
 ghost use Rattle.model.specs.Http1.{crlf};
 
 use crate::{lines, numbers};

@@ -1,6 +1,7 @@
 -- The text that the gateway writes for a request: one spelling among all those that a server reads as it.
-use Rattle.std.specs.Prelude.{ℕ, Bool, true, false, List, [], ◌∷◌, ◌++◌, codes, decimal, Option, Some, None}
-use Rattle.std.specs.List.{flat_map}
+use Rattle.std.specs.Prelude.{ℕ, ◌+◌, Bool, true, false, nat_lt, if◌then◌else◌, List, [], ◌∷◌, ◌++◌, length, map, codes, decimal, Option, Some, None}
+use Rattle.std.specs.List.{concat, flat_map}
+use Rattle.std.specs.Int.Digits.{digits_of}
 use Rattle.model.specs.Messages.{Field, Request}
 use Rattle.model.specs.Http1.{crlf, via}
 
@@ -30,3 +31,26 @@ written_fields keep request framing = record { name = codes "host"; value = requ
 abbrev pub head_text : Bool → Request → List Field → List ℕ
 head_text keep request framing =
     request.method ++ codes " " ++ request.target ++ codes " HTTP/1.1" ++ crlf ++ lines_text (written_fields keep request framing) ++ crlf
+
+-- a digit in base sixteen, in lower case
+abbrev pub hex_digit : ℕ → ℕ
+hex_digit digit = if nat_lt digit 10 then 48 + digit else 87 + digit
+
+-- a size above 0 in base sixteen, without leading zeros
+abbrev pub hex_size : ℕ → List ℕ
+hex_size size = map hex_digit (digits_of 16 size)
+
+-- a chunk (RFC 9112, section 7.1)
+abbrev pub chunk_text : List ℕ → List ℕ
+chunk_text piece = hex_size (length piece) ++ crlf ++ piece ++ crlf
+
+-- the last chunk, with these trailers (RFC 9112, section 7.1.2)
+abbrev pub last_chunk : List Field → List ℕ
+last_chunk trailers = codes "0" ++ crlf ++ lines_text trailers ++ crlf
+
+-- what follows a head, for a body that came in these pieces, and trailers: chunks, with the trailers behind them, where no length was
+-- declared, and else the body alone
+abbrev pub content_of : Option ℕ → Bool → List (List ℕ) → List Field → List ℕ
+content_of (Some declared) ended pieces trailers = concat pieces
+content_of None true pieces trailers = []
+content_of None false pieces trailers = flat_map chunk_text pieces ++ last_chunk trailers

@@ -10,6 +10,7 @@ pub mod Frames
 pub mod Http1
 pub mod Http1Text
 pub mod Http2
+pub mod Spelling
 pub mod ResponseHeads
 pub mod Responses
 pub mod Noticing

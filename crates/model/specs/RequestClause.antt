@@ -6,6 +6,7 @@ use Rattle.model.specs.Octets.{IsStrictFront, Joined}
 use Rattle.model.specs.Messages.{Field, Request, ends_with}
 use Rattle.model.specs.Http1.{Head, H1Head, Chunk, H1Open, H1Requests, values_of, forward}
 use Rattle.model.specs.Http2.{HasHead, WellFormedHead, H2Request, MayBecome, authority_of, path_of}
+use Rattle.model.specs.Spelling.{IsSpelled}
 use Rattle.model.specs.Logs.Act.{Open, ToUp}
 use Rattle.model.specs.Setup.{IsFirstMatch}
 use Rattle.model.specs.Setup.Passing.{Whole}
@@ -122,10 +123,11 @@ BeginInTime known (Did (ToUp k octets) ∷ t) =
 BeginInTime known (_ ∷ t) = BeginInTime known t
 
 -- Connections are numbered as they are opened, each exchange began in time, no stream has two, each was given to its stream by its
--- route, and each connection was sent the requests of its exchanges, and nothing else.
+-- route, and each connection was sent the requests of its exchanges, and nothing else. Each of them is spelled in one way.
 pub record RequestsHold (known : Known) (t : List Entry) : Type 0 where
   pub numbered : AreNumbered (opens t)
   pub apart : AreApart (exchanges t)
   pub in_time : BeginInTime known t
   pub served : (o : Opened) → IsIn o (exchanges t) → IsServed known t o
   pub sent : (o : Opened) → IsIn o (opens t) → IsSent known t (exchanges_of o.k (exchanges t)) (sent_up o.k t)
+  pub spelled : (o : Opened) → IsIn o (exchanges t) → IsSpelled known.setup.keep (items known o.stream t) (sent_for o t)

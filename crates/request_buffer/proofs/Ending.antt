@@ -5,7 +5,8 @@ use Rattle.std.specs.List.{concat}
 use Rattle.model.specs.Messages.{Field}
 use Rattle.model.specs.Http2.{HasLength}
 use Rattle.request_rules.specs.Heads.{HeadParts}
-use Rattle.h1_writer.specs.Sending.{Stage, Sending, SentCounting, SentWhole, Continues, MayPush, MayFinish, piece_of, head_of, content_of}
+use Rattle.h1_writer.specs.Sending.{Stage, Sending, SentCounting, SentWhole, Continues, MayPush, MayFinish, piece_of, head_of}
+use Rattle.model.specs.Http1Text.{content_of}
 use Rattle.h1_writer.proofs.Stages.{more_full, concat_more}
 use Rattle.h1_writer.specs.Sending.Stage.{Whole, Counting, Holding, Chunking}
 use Rattle.request_buffer.specs.Waits.{Request, MayEnd, IsEnded, IsEndedText}

@@ -12,7 +12,8 @@ use Rattle.model.specs.Openings.{Opened}
 use Rattle.model.specs.Tapes.{Noted}
 use Rattle.model.specs.Tapes.Entry.{Came, Sent, Did}
 use Rattle.model.specs.Headline.{ClausesHold}
-use Rattle.h1_writer.specs.Sending.{Continues, head_of, content_of, chunk_text, last_chunk}
+use Rattle.h1_writer.specs.Sending.{Continues, head_of}
+use Rattle.model.specs.Http1Text.{content_of, chunk_text, last_chunk}
 use Rattle.h1_writer.specs.Sending.Stage.{Whole, Chunking}
 use Rattle.h1_writer.proofs.Stages.{adds_chunk}
 use Rattle.theory_requests.specs.Lines.Answer.{Pending}

@@ -10,7 +10,7 @@ use Rattle.model.specs.Logs.Act.{ToUp, Close}
 use Rattle.model.specs.Tapes.{Noted}
 use Rattle.model.specs.Tapes.Entry.{Came, Happened, Sent, Did}
 use Rattle.model.specs.Deliveries.{Delivery}
-use Rattle.h1_writer.specs.Sending.{chunk_text, last_chunk}
+use Rattle.model.specs.Http1Text.{chunk_text, last_chunk}
 use Rattle.h1_writer.specs.Sending.Stage.{Whole, Chunking}
 use Rattle.h1_writer.proofs.Stages.{adds_chunk}
 use Rattle.theory_requests.specs.Lines.Answer.{Done, Pending}

@@ -14,7 +14,7 @@ use Rattle.model.specs.Setup.Passing.{Streaming}
 use Rattle.model.specs.Tapes.{Noted}
 use Rattle.model.specs.Tapes.Note.{Fields}
 use Rattle.model.specs.Tapes.Entry.{Came, Happened, Sent, Did}
-use Rattle.h1_writer.specs.Sending.{chunk_text}
+use Rattle.model.specs.Http1Text.{chunk_text}
 use Rattle.h1_writer.specs.Sending.Stage.{Chunking}
 use Rattle.h1_writer.proofs.Stages.{adds_chunk}
 use Rattle.theory_errors.specs.Book.{Ledger}

@@ -7,14 +7,14 @@ use Rattle.std.specs.List.{concat, flat_map, list_all}
 use Rattle.model.specs.Messages.{Field, Item, Request}
 use Rattle.model.specs.Octets.{Joined}
 use Rattle.model.specs.Http1.{Head, Chunk, values_of, via, HasBody, HasCome, KeptBack}
-use Rattle.model.specs.Http1Text.{framing_of, closing, written_fields, head_text}
+use Rattle.model.specs.Http1Text.{framing_of, closing, written_fields, head_text, chunk_text}
 use Rattle.model.specs.Http2.{body_of}
 use Rattle.model.specs.RequestClause.{AreWholeChunks, EndsWithChunks}
 use Rattle.model.proofs.Http1Readings.{one_head}
 use Rattle.model.proofs.Http1Texts.{can_send, has_line, Apart, apart, all_weaker, values_of-append, values_none, IsSendable, head_read}
 use Rattle.model.proofs.Http2Sends.{head_sendable}
 use Rattle.request_rules.specs.Heads.{parts_of, request_with}
-use Rattle.h1_writer.specs.Sending.{Stage, Sending, head_of, chunk_text}
+use Rattle.h1_writer.specs.Sending.{Stage, Sending, head_of}
 use Rattle.h1_writer.specs.Sending.Stage.{Whole, Counting, Holding, Chunking}
 use Rattle.h1_writer.proofs.Written.{length_frames, declared_fits, chunks_read}
 use Rattle.theory_requests.specs.Written.{IsWritten}

@@ -8,7 +8,8 @@ use Rattle.model.specs.Setup.{IsFirstMatch}
 use Rattle.model.specs.Tapes.{Noted}
 use Rattle.model.specs.Tapes.Entry.{Came}
 use Rattle.request_rules.specs.Heads.{parts_of}
-use Rattle.h1_writer.specs.Sending.{Sending, Continues, chunk_text, last_chunk}
+use Rattle.h1_writer.specs.Sending.{Sending, Continues}
+use Rattle.model.specs.Http1Text.{chunk_text, last_chunk}
 use Rattle.h1_writer.specs.Sending.Stage.{Whole, Chunking}
 use Rattle.h1_writer.proofs.Stages.{adds_chunk, ends}
 use Rattle.theory_requests.specs.Told.{Told}

@@ -7,9 +7,9 @@ use Rattle.std.proofs.lemmas.List.{length-map}
 use Rattle.std.proofs.lemmas.List.Concat.{flat_map-append}
 use Rattle.std.proofs.lemmas.Int.Digits.{length-digits_of-le}
 use Rattle.model.specs.Messages.{Field}
-use Rattle.model.specs.Http1Text.{lines_text}
+use Rattle.model.specs.Http1Text.{lines_text, content_of, hex_digit, hex_size, chunk_text, last_chunk}
 use Rattle.request_rules.specs.Heads.{HeadParts}
-use Rattle.h1_writer.specs.Sending.{Stage, held_back, Sending, head_of, content_of, hex_digit, hex_size, chunk_text, last_chunk, piece_of}
+use Rattle.h1_writer.specs.Sending.{Stage, held_back, Sending, head_of, piece_of}
 use Rattle.h1_writer.specs.Sending.Stage.{Whole, Counting, Holding, Chunking}
 use Rattle.h1_writer.proofs.Stages.{concat_more}
 

@@ -3,7 +3,8 @@ use Rattle.std.proofs.Common.{◌≡◌, ℕ, true, false, List, [], ◌∷◌, 
 use Rattle.std.specs.Prelude.{Some, codes}
 use Rattle.model.specs.Setup.{Setup}
 use Rattle.model.specs.Messages.Item.{Content}
-use Rattle.h1_writer.specs.Sending.{Stage, chunk_text}
+use Rattle.h1_writer.specs.Sending.{Stage}
+use Rattle.model.specs.Http1Text.{chunk_text}
 use Rattle.h1_writer.specs.Sending.Stage.{Whole, Chunking}
 use Rattle.theory_requests.specs.Told.{Told}
 use Rattle.theory_requests.specs.Lines.{Line}

@@ -13,7 +13,8 @@ use Rattle.model.specs.Tapes.{Noted}
 use Rattle.model.specs.Tapes.Note.{NoBlock, Fields}
 use Rattle.model.specs.Known.{Known}
 use Rattle.request_rules.specs.Heads.{parts_of}
-use Rattle.h1_writer.specs.Sending.{head_of, chunk_text, last_chunk}
+use Rattle.h1_writer.specs.Sending.{head_of}
+use Rattle.model.specs.Http1Text.{chunk_text, last_chunk}
 use Rattle.h1_writer.specs.Sending.Stage.{Whole, Chunking}
 use Rattle.theory_requests.specs.State.{Move, Turn}
 use Rattle.theory_requests.specs.State.Move.{Takes, Begins, Gathers, Sends, Acts}

@@ -11,7 +11,7 @@ use Rattle.model.specs.Tapes.Entry.{Happened}
 use Rattle.model.specs.Openings.{exchange_on}
 use Rattle.model.specs.Known.{Known}
 use Rattle.model.proofs.AnswerTexts.{answer, response, answered}
-use Rattle.h1_writer.specs.Sending.{chunk_text}
+use Rattle.model.specs.Http1Text.{chunk_text}
 use Rattle.h1_writer.specs.Sending.Stage.{Chunking}
 use Rattle.theory_requests.specs.State.{state_of, Turn, tape_of}
 use Rattle.theory_requests.specs.State.Move.{Begins, Passes, Drops, Hears, Acts}

@@ -6,12 +6,12 @@ use Rattle.std.proofs.lemmas.Bool.{and_parts}
 use Rattle.std.proofs.lemmas.Bool.Decides.{eqb_tells}
 use Rattle.model.specs.Octets.{some_of, is_token_octet}
 use Rattle.model.specs.Messages.{Field}
-use Rattle.model.specs.Http1Text.{framing_of, lines_text, written_fields}
+use Rattle.model.specs.Http1Text.{framing_of, lines_text, written_fields, content_of, chunk_text}
 use Rattle.model.specs.Http1.{crlf}
 use Rattle.model.specs.Http2.{method_of, path_of}
 use Rattle.model.specs.Causes.{is_front_of}
 use Rattle.request_rules.specs.Heads.{parts_of, request_with}
-use Rattle.h1_writer.specs.Sending.{Stage, Sending, head_of, content_of, chunk_text}
+use Rattle.h1_writer.specs.Sending.{Stage, Sending, head_of}
 use Rattle.h1_writer.specs.Sending.Stage.{Whole, Counting, Holding, Chunking}
 
 -- a space is no octet of a token

@@ -1,5 +1,5 @@
 use Rattle.std.proofs.Common.{ap, ◌∙◌, ◌++◌, ◌∷◌, [], List, ℕ, ◌%◌, arith}
-use Rattle.h1_writer.specs.Sending.{hex_digit}
+use Rattle.model.specs.Http1Text.{hex_digit}
 use Rattle.h1_writer.proofs.Digits.{hex_more}
 use Rattle.h1_writer.proofs.numbers.+push_hex.Goals as goal
 

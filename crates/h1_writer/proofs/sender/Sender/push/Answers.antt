@@ -1,5 +1,5 @@
 use Rattle.std.proofs.Common.{sym, ap, ◌∙◌, take, length, ◌-◌}
-use Rattle.h1_writer.specs.Sending.{chunk_text}
+use Rattle.model.specs.Http1Text.{chunk_text}
 use Rattle.h1_writer.specs.Views.{stage_of}
 use Rattle.h1_writer.proofs.Stages.{counts_on, holds_last, adds_chunk, on_ok}
 use Rattle.h1_writer.proofs.sender.Sender.push.Goals as goal

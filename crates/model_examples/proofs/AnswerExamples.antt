@@ -26,11 +26,13 @@ use Rattle.model.specs.Offers.{IsOffered, IsDelivered}
 use Rattle.model.specs.Lifetimes.{is_active, is_over}
 use Rattle.model.specs.Idle.{IsTooLong}
 use Rattle.model.specs.Failures.{MustFail}
+use Rattle.model.specs.Spelling.{IsSpelled}
 use Rattle.model.specs.RequestClause.{IsServed, IsSent, RequestsHold}
+use Rattle.model_examples.proofs.SpellingLaws.{bare_spelled}
 use Rattle.model.proofs.ExchangeLaws.{few_kept}
 use Rattle.model.proofs.OpenLaws.{sent_alone}
 use Rattle.model.specs.ErrorClause.{ErrorsHold}
-use Rattle.model.specs.Openings.{Opened, opens, exchanges, exchanges_of}
+use Rattle.model.specs.Openings.{Opened, opens, exchanges, exchanges_of, sent_for}
 use Rattle.model.specs.ProgressClause.{AreClosed, IsForwarded, AllForwarded, ProgressHolds}
 use Rattle.model.specs.ProgressClause.Reason.{Over}
 use Rattle.model.specs.WindowClause.{WindowsHold}
@@ -180,8 +182,14 @@ all_served : (o : Opened) → IsIn o (exchanges tape) → IsServed known tape o
 all_served o (inl same) = subst (λ p. IsServed known tape p) (sym same) served
 all_served o (inr none) = absurd none
 
+all_spelled : (o : Opened) → IsIn o (exchanges tape) → IsSpelled false (items known o.stream tape) (sent_for o tape)
+unfolding total_size
+all_spelled o (inl same) =
+    subst (λ (p : Opened). IsSpelled false (items known p.stream tape) (sent_for p tape)) (sym same) (bare_spelled false (Block first.head true ∷ []) first.head text refl refl refl)
+all_spelled o (inr none) = absurd none
+
 requests : RequestsHold known tape
-requests = record { numbered = (refl, tt); apart = (tt, tt); in_time = before.requests.in_time; served = all_served; sent = all_sent }
+requests = record { numbered = (refl, tt); apart = (tt, tt); in_time = before.requests.in_time; served = all_served; sent = all_sent; spelled = all_spelled }
 
 nothing_beside : (of_first : Bool) → of_first ≡ false → (if of_first then Block first.head true ∷ [] else []) ≡ []
 nothing_beside of_first e = ap (λ b. if b then Block first.head true ∷ [] else []) e

@@ -59,7 +59,7 @@ greeted_forwarded stream r place m routed cut = absurd (no_request (items known 
 pub greeted_holds : ClausesHold known greeted
 unfolding total_size
 greeted_holds = record {
-  requests = record { numbered = tt; apart = tt; in_time = tt; served = λ o i. absurd i; sent = λ o i. absurd i };
+  requests = record { numbered = tt; apart = tt; in_time = tt; served = λ o i. absurd i; sent = λ o i. absurd i; spelled = λ o i. absurd i };
   responses = record {
     table = first_table;
     decodes = (first_table, refl, (refl, refl), refl);
@@ -91,7 +91,7 @@ settled_forwarded stream r place m routed cut = absurd (no_request (items known 
 pub settled_holds : ClausesHold known settled
 unfolding total_size
 settled_holds = record {
-  requests = record { numbered = tt; apart = tt; in_time = tt; served = λ o i. absurd i; sent = λ o i. absurd i };
+  requests = record { numbered = tt; apart = tt; in_time = tt; served = λ o i. absurd i; sent = λ o i. absurd i; spelled = λ o i. absurd i };
   responses = record {
     table = first_table;
     decodes = (first_table, (first_table, refl, (refl, refl), refl), (refl, refl), refl);

@@ -10,7 +10,7 @@ use Rattle.model.specs.Http2.{H2Request}
 use Rattle.model.specs.Setup.{IsFirstMatch}
 use Rattle.model.specs.Setup.Passing.{Whole}
 use Rattle.model.specs.Tapes.{sent_up}
-use Rattle.model.specs.Openings.{Opened, opens, exchanges, exchanges_of, exchange_on}
+use Rattle.model.specs.Openings.{Opened, opens, exchanges, exchanges_of, exchange_on, sent_for}
 use Rattle.model.proofs.ExchangeLaws.{no_idle, few_kept}
 use Rattle.model.proofs.OpenLaws.{sent_alone}
 use Rattle.model.specs.Deliveries.{Delivery}
@@ -19,7 +19,9 @@ use Rattle.model.specs.Lifetimes.{is_active, is_over}
 use Rattle.model.specs.Causes.{Cause}
 use Rattle.model.specs.Courses.{items}
 use Rattle.model.specs.Offers.{is_to_head, IsOffered}
+use Rattle.model.specs.Spelling.{IsSpelled}
 use Rattle.model.specs.RequestClause.{IsServed, IsSent, BeginInTime, RequestsHold}
+use Rattle.model_examples.proofs.SpellingLaws.{bare_spelled}
 use Rattle.model.specs.ResponseClause.{ResponsesHold}
 use Rattle.model.specs.ErrorClause.{ErrorsHold}
 use Rattle.model.specs.ProgressClause.{AllForwarded, AllStreamed, NoneReady, Reason, AreClosed, ProgressHolds, IsForwarded}
@@ -65,8 +67,14 @@ in_time : BeginInTime known tape
 unfolding total_size
 in_time = (tt, (record { active = refl; no_cause = refl; goes_on = refl; whole = λ passing. refl }, λ j idle route. no_idle known _ j refl idle, tt))
 
+all_spelled : (o : Opened) → IsIn o (exchanges tape) → IsSpelled false (items known o.stream tape) (sent_for o tape)
+unfolding total_size
+all_spelled o (inl same) =
+    subst (λ (p : Opened). IsSpelled false (items known p.stream tape) (sent_for p tape)) (sym same) (bare_spelled false (Block head true ∷ []) head text refl refl refl)
+all_spelled o (inr none) = absurd none
+
 pub requests : RequestsHold known tape
-requests = record { numbered = (refl, tt); apart = (tt, tt); in_time = in_time; served = all_served; sent = all_sent }
+requests = record { numbered = (refl, tt); apart = (tt, tt); in_time = in_time; served = all_served; sent = all_sent; spelled = all_spelled }
 
 -- ---- streams beside the first
 

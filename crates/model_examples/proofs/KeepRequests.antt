@@ -1,17 +1,20 @@
 -- The clause on requests where two of them go on one connection, and a third on another.
-use Rattle.std.proofs.Common.{◌≡◌, [], ◌∷◌, ◌++◌, refl, sym, subst, inl, inr, arith}
+use Rattle.std.proofs.Common.{◌≡◌, true, [], ◌∷◌, ◌++◌, refl, sym, subst, inl, inr, arith}
 use Rattle.std.specs.Prelude.{codes}
 use Rattle.std.proofs.lemmas.Bool.{false≢true}
 use Rattle.model.specs.Tables.{total_size}
+use Rattle.model.specs.Messages.Item.{Block}
 use Rattle.model.specs.Octets.{Joined}
 use Rattle.model.specs.Http1.{H1Open, forward}
 use Rattle.model.specs.Http2.{HasHead, WellFormedHead, H2Request}
 use Rattle.model.specs.Setup.{IsFirstMatch}
 use Rattle.model.specs.Tapes.{sent_up}
-use Rattle.model.specs.Openings.{Opened, opens, exchanges, exchanges_of}
+use Rattle.model.specs.Openings.{Opened, opens, exchanges, exchanges_of, sent_for}
 use Rattle.model.specs.Available.{IsIn}
 use Rattle.model.specs.Courses.{items}
+use Rattle.model.specs.Spelling.{IsSpelled}
 use Rattle.model.specs.RequestClause.{IsServed, ReadsAsAll, IsSent, RequestsHold}
+use Rattle.model_examples.proofs.SpellingLaws.{bare_spelled}
 use Rattle.model.proofs.FirstLog.{nothing_begins_none}
 use Rattle.model.proofs.OpenLaws.{behind_open, joined_open}
 use Rattle.model_examples.proofs.RowTapes.{get}
@@ -117,6 +120,16 @@ all_served o (inr (inl same)) = subst (IsServed by_keeping third_got) (sym same)
 all_served o (inr (inr (inl same))) = subst (IsServed by_keeping third_got) (sym same) (served (exchange 1 1) refl refl)
 all_served o (inr (inr (inr none))) = absurd none
 
+spelled : (o : Opened) → items by_keeping o.stream third_got ≡ Block get true ∷ [] → sent_for o third_got ≡ getk → IsSpelled true (items by_keeping o.stream third_got) (sent_for o third_got)
+spelled o items_are text_is = subst (IsSpelled true (items by_keeping o.stream third_got)) (sym text_is) (bare_spelled true (items by_keeping o.stream third_got) get getk items_are refl refl)
+
+all_spelled : (o : Opened) → IsIn o (exchanges third_got) → IsSpelled true (items by_keeping o.stream third_got) (sent_for o third_got)
+unfolding total_size
+all_spelled o (inl same) = subst (λ (p : Opened). IsSpelled true (items by_keeping p.stream third_got) (sent_for p third_got)) (sym same) (spelled (exchange 2 5) refl refl)
+all_spelled o (inr (inl same)) = subst (λ (p : Opened). IsSpelled true (items by_keeping p.stream third_got) (sent_for p third_got)) (sym same) (spelled (exchange 1 3) refl refl)
+all_spelled o (inr (inr (inl same))) = subst (λ (p : Opened). IsSpelled true (items by_keeping p.stream third_got) (sent_for p third_got)) (sym same) (spelled (exchange 1 1) refl refl)
+all_spelled o (inr (inr (inr none))) = absurd none
+
 -- The row of three requests on two connections keeps the clause.
 pub requests_hold : RequestsHold by_keeping third_got
 requests_hold = record {
@@ -128,4 +141,5 @@ requests_hold = record {
   in_time = all_in_time;
   served = all_served;
   sent = all_sent;
+  spelled = all_spelled;
 }

@@ -19,6 +19,8 @@ mod RowBlocks
 mod RowTapes
 mod SendingRefusals
 mod ServingRefusals
+mod SpellingLaws
+mod SpellingRefusals
 mod TrailerExamples
 mod TurnRefusals
 mod WindowExamples

@@ -166,7 +166,7 @@ module _ (known : Known) (t : List Entry) (s : State) (h : Stands known t s) (to
 
   -- the clause on requests
   pub requests_hold : RequestsHold known t
-  requests_hold = record { numbered = h.numbered; apart = h.apart; in_time = h.in_time; served = served; sent = sent_together known t s h rests.nothing }
+  requests_hold = record { numbered = h.numbered; apart = h.apart; in_time = h.in_time; served = served; sent = sent_together known t s h rests.nothing; spelled = λ o i. (sent_all known t s h rests.nothing o i).spelled }
 
   none_finished : list_any (λ (x : Line). is_finished x.answer) s.live ≡ false
   none_finished = framing.none_finished_of told s.live rests.none_done

@@ -17,6 +17,7 @@ pub mod Frozen
 pub mod Numbers
 pub mod Bare
 pub mod Standing
+pub mod Spelled
 pub mod Streamed
 pub mod Passing
 pub mod Goaways

@@ -24,6 +24,7 @@ use Rattle.theory_requests.specs.State.Due.{Nothing}
 use Rattle.model.proofs.ItemLaws.{items_stay}
 use Rattle.theory_requests.proofs.Pooling.{Leaves}
 use Rattle.theory_requests.proofs.Leaving.{IsLetGo, LetGo, let_go_there}
+use Rattle.model.specs.Spelling.{IsSpelled}
 use Rattle.theory_requests.proofs.Standing.{IsSentWhole, IsSentInPart, owed, text_of, IsSent, IsDueFor, Fares, IsDue, IsFor, IsOnWay, Stands, Steps, unread_same, some_items, had_closed_in, cut_stays, way_stays}
 use Rattle.model.specs.Streams.{frame_items}
 use Rattle.model.specs.Decoding.{completed}
@@ -67,6 +68,7 @@ sent_same known t e o text i same shut g = record {
           (cut_stays t e o.stream was.0 (had_closed_in o.stream (exchanges t) t o i refl was.1), shut was.1);
     })
   ];
+  spelled = subst (λ xs. IsSpelled known.setup.keep xs text) (sym same) g.spelled;
   writes = λ opened. let w = g.writes (before opened) in (w.0, subst (λ xs. IsWritten known.setup.keep xs text w.0) (sym same) w.1);
 }
   where

@@ -47,6 +47,8 @@ use Rattle.theory_requests.proofs.Pool.{none_finished}
 use Rattle.theory_requests.proofs.Leaving.{came_leaves}
 use Rattle.model.specs.WindowsOnTape.{is_on, data_octets}
 use Rattle.theory_requests.proofs.Bare.{none_with_head}
+use Rattle.model.specs.Spelling.{IsSpelled}
+use Rattle.theory_requests.proofs.Spelled.{spelled_more}
 use Rattle.theory_requests.proofs.Standing.{IsSentWhole, IsSentInPart, owed, text_of, IsInPart, IsSent, Given, IsDueFor, Fares, IsStarting, IsDue, IsOnWay, IsWaiting, IsGoing, IsDropped, Stands, Steps, had_closed_in, has_head_stays}
 use Rattle.theory_requests.proofs.Passing.{items_beside, begun_on, let_go_left, none_owed, none_due, sent_same, fares_same, way_same}
 use Rattle.theory_requests.proofs.Framing.{not_to_end, none_to_close, came_keeps}
@@ -369,8 +371,13 @@ module _ (known : Known) (t : List Entry) (s : State) (h : Stands known t s) (to
       ]
 
       own : (text : List ℕ) → (o : Opened) → IsIn o (exchanges t) → Given known t s.due o → line_of o.k s.live ≡ None → id ≡ o.stream → IsSent known t text o → IsSent known (e ∷ t) text o
-      own text o i g none same was = record { reads = elim was.reads [ inl whole ↦ by_whole whole | inr p ↦ by_part p ]; writes = λ opened. absurd (let clash : true ≡ false = sym opened ∙ shut o none in cc) }
+      own text o i g none same was = record { reads = elim was.reads [ inl whole ↦ by_whole whole | inr p ↦ by_part p ]; spelled = still_spelled; writes = λ opened. absurd (let clash : true ≡ false = sym opened ∙ shut o none in cc) }
         where
+          still_spelled : IsSpelled known.setup.keep (items known o.stream (e ∷ t)) text
+          still_spelled =
+              subst (λ n. IsSpelled known.setup.keep (items known n (e ∷ t)) text) same
+              (spelled_more known.setup.keep (is_interrupted known id t e) (items known id t) (items_of id t e) text (subst (λ n. IsSpelled known.setup.keep (items known n t) text) (sym same) was.spelled))
+
           by_whole : IsSentWhole known.setup.keep text (items known o.stream t) → IsSentWhole known.setup.keep text (items known o.stream (e ∷ t)) ⊎ IsInPart known (e ∷ t) text o
           by_whole whole = absurd (no_request (items known o.stream t) whole.request (subst (λ n. list_any ends_with (items known n t) ≡ false) same none_before) whole.means)
 

@@ -20,6 +20,7 @@ use Rattle.model.specs.ErrorTable.{fault_with}
 use Rattle.model.specs.Courses.{course, carried, items, interrupts}
 use Rattle.model.specs.Http1.{H1Requests, H1Kept, forward}
 use Rattle.model.specs.Http2.{MayBecome}
+use Rattle.model.specs.Spelling.{IsSpelled}
 use Rattle.model.specs.Octets.{IsStrictFront}
 use Rattle.model.specs.Offers.{IsGiven}
 use Rattle.model.specs.RequestClause.{EndsWithChunks, MayBeServed, BeginInTime}
@@ -77,9 +78,10 @@ pub record IsInPart (known : Known) (t : List Entry) (text : List ℕ) (o : Open
   pub part : IsSentInPart known.setup.keep text (items known o.stream t)
   pub cut : (request : Request) → H2Request (items known o.stream t) request → (was_cut o.stream t ≡ true) × (is_open o.k t ≡ false)
 
--- The text is the stream's request, whole or in part; while the connection is open it is what was written for the items.
+-- The text is the stream's request, whole or in part, and spelled in one way; while the connection is open it is what was written for the items.
 pub record IsSent (known : Known) (t : List Entry) (text : List ℕ) (o : Opened) : Type 0 where
   pub reads : IsSentWhole known.setup.keep text (items known o.stream t) ⊎ IsInPart known t text o
+  pub spelled : IsSpelled known.setup.keep (items known o.stream t) text
   pub writes : is_open o.k t ≡ true → (stage : Stage) × IsWritten known.setup.keep (items known o.stream t) text stage
 
 -- A connection was given to a stream with this head.

@@ -30,6 +30,7 @@ use Rattle.theory_requests.proofs.Texts.{sent_either, no_request, one_head, part
 use Rattle.theory_requests.proofs.Leaving.{IsLetGo, LetGo, let_go_stay}
 use Rattle.theory_requests.proofs.Standing.{owed, text_of, IsNewest, IsPast, IsSent, Given, IsDueFor, Fares, IsStarting, IsDue, IsFor, IsGoing, IsOnWay, Stands, unread_same, has_head_stays, past_stays, way_stays}
 use Rattle.theory_requests.proofs.Passing.{sent_same}
+use Rattle.theory_requests.proofs.Spelled.{written_spelled}
 use Rattle.model.proofs.ExchangeLaws.{newest_in}
 use Rattle.model.specs.Setup.{IsFirstMatch}
 
@@ -52,6 +53,7 @@ sent_written known t o text stage w = record {
     | inl whole ↦ inl whole
     | inr part ↦ inr (record { part = part.0; cut = λ request means. absurd (no_request (items known o.stream t) request part.1 means) })
   ];
+  spelled = written_spelled known.setup.keep (items known o.stream t) text stage w;
   writes = λ opened. (stage, w);
 }
 

@@ -1,16 +1,16 @@
 -- Gateways that spell a request otherwise than in the one way. A server that keeps to the standard reads it as the same; others have read
 -- such spellings each in a way of its own.
 use Rattle.std.proofs.Common.{◌≡◌, ℕ, ◌<◌, true, false, List, [], ◌∷◌, ◌++◌, length, append_assoc, refl, sym, ap, ◌∙◌, inl, arith}
-use Rattle.std.specs.Prelude.{codes, not, None}
+use Rattle.std.specs.Prelude.{codes, not, Some, None}
 use Rattle.std.specs.List.{list_all, concat, flat_map}
-use Rattle.std.specs.Fmt.{digits}
 use Rattle.std.proofs.lemmas.Fmt.{decimal_digit}
 use Rattle.model.specs.Tables.{total_size}
 use Rattle.model.specs.Octets.{is_empty}
 use Rattle.model.specs.Messages.{Field}
 use Rattle.model.specs.Messages.Item.{Content}
 use Rattle.model.specs.Http1.{crlf}
-use Rattle.model.specs.Http1Text.{hex_size, chunk_text, last_chunk, content_of}
+use Rattle.model.specs.Http2.{request_of}
+use Rattle.model.specs.Http1Text.{framing_of, head_text, hex_size, chunk_text, last_chunk, content_of}
 use Rattle.model.specs.Logs.Act.{Open, ToUp}
 use Rattle.model.specs.Tapes.{Entry}
 use Rattle.model.specs.Tapes.Entry.{Did}
@@ -18,7 +18,7 @@ use Rattle.model.specs.Openings.{Opened}
 use Rattle.model.specs.RequestClause.{RequestsHold}
 use Rattle.model.proofs.Http1Bodies.{cons-append}
 use Rattle.model_examples.proofs.RowTapes.{by_whole, by_streaming, frame, plain, headed, get, get_block, post, post_block, begun}
-use Rattle.model_examples.proofs.RequestRefusals.{five, five_block}
+use Rattle.model_examples.proofs.RequestRefusals.{five, five_block, five_text}
 use Rattle.model_examples.proofs.ChunkRefusals.{posting_text}
 use Rattle.model_examples.proofs.SpellingLaws.{octet_at, differ, begins_like, size_not_zero}
 
@@ -77,10 +77,11 @@ not_to_be_closed c =
     let b = begins_like false get true [] not_to_be_closed_text (c.spelled first (inl refl)) in
     differ 13 99 refl (ap (octet_at 54) b.is)
 
--- A declared length with leading zeros.
-five_first : (more : List ℕ) → octet_at 0 (digits 10 false 5 ++ more) ≡ 53
-five_first more = ap (λ (text : List ℕ). octet_at 0 (text ++ more)) (decimal_digit 5 (omega arith))
+-- the head with its length, digit by digit
+five_spelled : head_text false (request_of five [] []) (framing_of (Some 5) false) ≡ five_text
+five_spelled = ap (λ (value : List ℕ). head_text false (request_of five [] []) (record { name = codes "content-length"; value = value } ∷ [])) (decimal_digit 5 (omega arith))
 
+-- A declared length with leading zeros.
 abbrev zeros_before_length_text : List ℕ
 zeros_before_length_text = codes "POST / HTTP/1.1\r\nhost: a\r\nvia: 2.0 h2gw\r\ncontent-length: 0000005\r\nconnection: close\r\n\r\n"
 
@@ -88,7 +89,7 @@ pub zeros_before_length : RequestsHold by_streaming (five_by zeros_before_length
 unfolding total_size
 zeros_before_length c =
     let b = begins_like false five false [] zeros_before_length_text (c.spelled first (inl refl)) in
-    differ 48 53 refl (ap (octet_at 57) b.is ∙ five_first (crlf ++ codes "connection: close\r\n" ++ crlf ++ concat b.pieces))
+    differ 48 53 refl (ap (octet_at 57) (b.is ∙ ap (λ (text : List ℕ). text ++ concat b.pieces) five_spelled))
 
 -- A coding in capitals.
 abbrev shouted_coding_text : List ℕ

@@ -9,10 +9,11 @@ use Rattle.model.specs.Setup.{IsFirstMatch}
 use Rattle.model.specs.Tapes.{Noted, Entry, sent_up}
 use Rattle.model.specs.Tapes.Entry.{Came, Happened, Did}
 use Rattle.model.specs.Tapes.Note.{NoBlock}
-use Rattle.model.specs.Openings.{Opened, opens, exchanges, exchanges_of}
+use Rattle.model.specs.Openings.{Opened, opens, exchanges, exchanges_of, sent_for}
 use Rattle.model.specs.Available.{IsIn, heard_by}
 use Rattle.model.specs.Known.{Known}
 use Rattle.model.specs.Courses.{items}
+use Rattle.model.specs.Spelling.{IsSpelled}
 use Rattle.model.specs.RequestClause.{IsServed, IsSent, BeginInTime}
 use Rattle.model.proofs.ExchangeLaws.{no_idle}
 use Rattle.model.proofs.OpenLaws.{sent_alone}
@@ -59,10 +60,24 @@ in_time : BeginInTime known answered
 unfolding total_size
 in_time = (tt, (record { active = refl; no_cause = refl; goes_on = refl; whole = λ passing. refl }, λ j idle route. no_idle known _ j refl idle, tt))
 
+all_spelled : (o : Opened) → IsIn o (exchanges answered) → IsSpelled false (items known o.stream answered) (sent_for o answered)
+unfolding total_size
+all_spelled o (inl same) = subst (λ (p : Opened). IsSpelled false (items known p.stream answered) (sent_for p answered)) (sym same) (record {
+  head = head;
+  ended = true;
+  more = [];
+  is = refl;
+  whole = text;
+  spelling = record { pieces = []; trailers = []; are_full = refl; has_length = tt; is = refl };
+  front = record { rest = []; is = refl };
+  to_the_end = λ request reads. refl;
+})
+all_spelled o (inr none) = absurd none
+
 keeps_none : KeepsNone known answered
 keeps_none = record {
   off = refl;
-  requests = record { numbered = (refl, tt); apart = (tt, tt); in_time = in_time; served = all_served; sent = all_sent };
+  requests = record { numbered = (refl, tt); apart = (tt, tt); in_time = in_time; served = all_served; sent = all_sent; spelled = all_spelled };
   go_to_open = (refl, tt);
   come_of_open = (refl, tt);
 }

@@ -1,5 +1,5 @@
 -- What is written is the shortest text.
-use Rattle.std.proofs.Common.{◌≡◌, ℕ, zero, suc, ◌+◌, ◌-◌, ◌*◌, ◌/◌, ◌%◌, ◌^◌, ◌<◌, ◌≤◌, ◌⊎◌, List, [], ◌∷◌, ◌++◌, length, take, slice_set, refl, ap, sym, ◌∙◌, subst, inl, inr, arith, add-one, length-set, Result, Ok, Err, OnOk, is_ok, if◌then◌else◌}
+use Rattle.std.proofs.Common.{◌≡◌, ℕ, zero, suc, ◌+◌, ◌-◌, ◌*◌, ◌/◌, ◌%◌, ◌^◌, ◌<◌, ◌≤◌, ◌⊎◌, List, [], ◌∷◌, ◌++◌, length, take, slice_set, refl, ap, sym, ◌∙◌, subst, inl, inr, arith, add-one, length-set, Result, Ok, Err, OnOk, OnErr, is_ok, if◌then◌else◌}
 use Rattle.std.proofs.Math.Nat.{pow-succ', pow-le-pow_right}
 use Rattle.std.proofs.Math.Seq.{take-suc-set}
 use Rattle.std.proofs.lemmas.List.{length-take-le, append-nil}
@@ -205,3 +205,22 @@ long_writes prefix high value count groups copied old new (Ok done) some most oc
     rw (add-one, e, append-nil, same) refl in
     writes prefix high value old new _ (is ∙ ap (λ t. old ++ t) text)
     (long_text prefix high value count groups least_ones fits f q (length-take-le count groups p.within))
+
+-- where a refused growth was due, no text of the value fits
+pub no_room : {U E : Type 0} (prefix high value count capacity start : ℕ) (groups copied : List ℕ) (r : Result U E) → 1 ≤ prefix → prefix ≤ 8 → high < 256 → high % 2 ^ prefix ≡ 0
+    → value < 4294967296 → 1 * 2 ^ prefix % 4294967296 - 1 ≤ value → AreGroupsOf (value - (1 * 2 ^ prefix % 4294967296 - 1)) groups count → copied ≡ groups
+    → OnErr r (capacity < start + length (take (count + 1) ((high + (1 * 2 ^ prefix % 4294967296 - 1)) ∷ (copied ++ []))))
+    → OnErr r ((text : List ℕ) → IsShortestInt prefix (high / 2 ^ prefix) text value → capacity < start + length text)
+no_room prefix high value count capacity start groups copied (Ok done) some most octet no_bit fits least p same full = tt
+no_room prefix high value count capacity start groups copied (Err error) some most octet no_bit fits least p same full =
+    let e = exact prefix most in
+    let f = ones_first prefix some most high octet no_bit in
+    let least_ones : 2 ^ prefix - 1 ≤ value = subst (λ n. n - 1 ≤ value) e least in
+    let q : AreGroupsOf (value - (2 ^ prefix - 1)) groups count = subst (λ n. AreGroupsOf (value - (n - 1)) groups count) e p in
+    let written : take (count + 1) ((high + (1 * 2 ^ prefix % 4294967296 - 1)) ∷ (copied ++ [])) ≡ (high + (2 ^ prefix - 1)) ∷ take count groups =
+    rw (add-one, e, append-nil, same) refl in
+    let own = long_text prefix high value count groups least_ones fits f q (length-take-le count groups p.within) in
+    λ text shortest. larger capacity start _ _ (length text) (ap length written) (own.shortest text shortest.marked.int) full
+  where
+    larger : (capacity start count length most : ℕ) → count ≡ length → length ≤ most → capacity < start + count → capacity < start + most
+    larger capacity start count length most same within less = omega (arith, same, within, less)

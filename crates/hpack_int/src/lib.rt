@@ -2,9 +2,9 @@
 //! seven bits where the value doesn't fit it.
 #![tactic(auto)]
 
-ghost use Rattle.std.specs.Prelude.{◌≡◌, ◌-◌, ◌≤◌, ◌%◌, ◌^◌, OnOk, OnErr};
+ghost use Rattle.std.specs.Prelude.{◌≡◌, ℕ, ◌+◌, ◌-◌, ◌/◌, ◌%◌, ◌^◌, ◌<◌, ◌≤◌, List, length, vec_len, vec_capacity, OnOk, OnErr};
 ghost use Rattle.hpack_int.specs.Reading.{Reads, ReadsGroups};
-ghost use Rattle.hpack_int.specs.Writing.{Writes, AreGroupsOf};
+ghost use Rattle.hpack_int.specs.Writing.{IsShortestInt, Writes, AreGroupsOf};
 
 use std::alloc::AllocError;
 
@@ -75,6 +75,10 @@ pub fn write(prefix: u8, high: u8, value: u32, out: &mut Vec<u8>) -> Result<(), 
     requires no_bit { high % 2 ^ prefix ≡ 0 }
     ensures ok { OnOk result (Writes prefix high value out.old.items out.new.items) }
     ensures err { OnErr result (out.new.items ≡ out.old.items) }
+
+    // It fails only where the vector had to grow.
+    ensures full { OnErr result ((text : List ℕ) → IsShortestInt prefix (high / 2 ^ prefix) text value
+        → vec_capacity out.old < vec_len out.old + length text) }
 {
     let ones = (1u32 << prefix) - 1;
     if value < ones {
@@ -92,6 +96,8 @@ fn write_groups(prefix: u8, high: u8, value: u32, out: &mut Vec<u8>) -> Result<(
     requires large { 2 ^ prefix - 1 ≤ value }
     ensures ok { OnOk result (Writes prefix high value out.old.items out.new.items) }
     ensures err { OnErr result (out.new.items ≡ out.old.items) }
+    ensures full { OnErr result ((text : List ℕ) → IsShortestInt prefix (high / 2 ^ prefix) text value
+        → vec_capacity out.old < vec_len out.old + length text) }
 {
     let ones = (1u32 << prefix) - 1;
     let (groups, count) = groups_of(value - ones);

@@ -1,6 +1,6 @@
 //! Encoding.
 
-ghost use Rattle.std.specs.Prelude.{◌≡◌, ◌^◌, ◌<◌, ◌≤◌, ℕ, List, length, IfOk, OnOk, OnErr};
+ghost use Rattle.std.specs.Prelude.{◌≡◌, ◌+◌, ◌*◌, ◌^◌, ◌<◌, ◌≤◌, ℕ, List, length, vec_len, vec_capacity, IfOk, OnOk, OnErr};
 ghost use Rattle.model.specs.Huffman.{Huff};
 ghost use Rattle.huffman.specs.Decoding.{Adds};
 ghost use Rattle.huffman.specs.Encoding.{Encodes};
@@ -28,6 +28,9 @@ pub fn encode(string: &[u8], out: &mut Vec<u8>) -> Result<(), AllocError>
     requires { length string.now ≤ 65536 }
     ensures ok { OnOk result (Encodes string.now out.old.items out.new.items) }
     ensures err { OnErr result (out.new.items ≡ out.old.items) }
+
+    // It fails only where the vector had to grow: no code has more than 30 bits.
+    ensures full { OnErr result (vec_capacity out.old < vec_len out.old + 4 * length string.now) }
 {
     out.reserve(string.len())?;
     let start = out.len();
@@ -42,6 +45,7 @@ pub fn encode(string: &[u8], out: &mut Vec<u8>) -> Result<(), AllocError>
 fn encode_onto(string: &[u8], out: &mut Vec<u8>) -> Result<(), AllocError>
     ensures ok { OnOk result (Encodes string.now out.old.items out.new.items) }
     ensures err { OnErr result (Adds out.old.items out.new.items) }
+    ensures full { OnErr result (8 * vec_capacity out.old < 8 * vec_len out.old + 30 * length string.now) }
 {
     let mut pending = NOTHING;
     for octet in string {
@@ -61,6 +65,9 @@ fn put_four(all: Pending, out: &mut Vec<u8>) -> Result<Pending, AllocError>
     ensures ok { IfOk result (λ rest. Flushes all rest out.old.items out.new.items) }
     ensures few { IfOk result (λ rest. rest.width < 32) }
     ensures err { OnErr result (Adds out.old.items out.new.items) }
+    ensures room { IfOk result (λ rest. 8 * vec_len out.new + rest.width ≡ 8 * vec_len out.old + all.width) }
+    ensures capacity { vec_capacity out.old ≤ vec_capacity out.new }
+    ensures full { OnErr result (8 * vec_capacity out.old < 8 * vec_len out.old + all.width) }
 {
     if all.width < 32 {
         return Ok(all);
@@ -78,6 +85,9 @@ fn put_octets(all: Pending, out: &mut Vec<u8>) -> Result<Pending, AllocError>
     ensures ok { IfOk result (λ rest. Flushes all rest out.old.items out.new.items) }
     ensures few { IfOk result (λ rest. rest.width < 8) }
     ensures err { OnErr result (Adds out.old.items out.new.items) }
+    ensures room { IfOk result (λ rest. 8 * vec_len out.new + rest.width ≡ 8 * vec_len out.old + all.width) }
+    ensures capacity { vec_capacity out.old ≤ vec_capacity out.new }
+    ensures full { OnErr result (8 * vec_capacity out.old < 8 * vec_len out.old + all.width) }
 {
     let mut rest = all;
     while rest.width >= 8 {

@@ -235,8 +235,8 @@ fn closes_client(outputs: &[Output]) -> bool
 /// event is taken, and what is put out for it is applied in order. That nothing comes as yet is a
 /// turn too.
 ///
-/// Of what that adds to a log that the world tells holds what `gateway::run` promises. `Closed` is
-/// answered just where the client was closed, `Turns` only after all turns, and `Over` only where
+/// Of what that adds to a log that the world tells holds what `gateway::run` promises: the headline,
+/// and that nothing is smuggled. `Closed` is answered just where the client was closed, `Turns` only after all turns, and `Over` only where
 /// the world said so; `World` only where a call of the world failed, and then what was added is a
 /// front of such a log, without the output that failed; `NotAdmitted` only where an event came that
 /// may not, with whose it is, and of a world that keeps to rooms never with an upstream, whether it

@@ -7,7 +7,8 @@ use Rattle.model.specs.Tables.{Table, first_table}
 use Rattle.model.specs.Tapes.{Entry, IsRead}
 use Rattle.model.specs.Known.{Known}
 use Rattle.model.specs.Synchrony.{InStep, IsReadyAtEach, turns_on}
-use Rattle.model.specs.Headline.{ClausesHold, HoldsInTurn, IsTold, HasTape}
+use Rattle.model.specs.Headline.{ClausesHold, HoldsInTurn, IsTold, HasTape, Headline}
+use Rattle.nothing_smuggled.proofs.Fronts.{headline_smuggles_nothing}
 use Rattle.theory_errors.specs.Rule.{AreKnown, known_of}
 use Rattle.theory_errors.proofs.Knowing.{known_so}
 use Rattle.theory.specs.Moves.{Move, entry_of}
@@ -95,12 +96,8 @@ in_step_behind known (step ∷ earlier) run k answered = in_step known run k (su
 pub promised_by : (setup : Setup) (g : Standing) (log : List Step) (run : List Move) → Stands setup g log run → (promise : Promise setup (reverse log)) × (promise.headline.tape ≡ tape_of run) × (promise.headline.known ≡ known_of setup (conducts run))
 promised_by setup g log run stands = (
   record {
-    headline = record {
-      known = known;
-      of_setup = refl;
-      tape = tape_of run;
-      has_tape = subst (λ l. HasTape known l (tape_of run)) (sym (reverse-reverse log)) (has_tape known log run k by);
-    };
+    headline = headline;
+    safe = headline_smuggles_nothing setup (reverse log) headline;
     in_step = record { encoding = (state_of setup run).tables.encoding.table; decoding = (state_of setup run).tables.decoding; in_step = in_step_behind known log run k by };
   },
   refl,
@@ -118,6 +115,14 @@ promised_by setup g log run stands = (
 
     by : AreAnsweredBy known log run
     by = stands.answered known refl knows
+
+    headline : Headline setup (reverse log)
+    headline = record {
+      known = known;
+      of_setup = refl;
+      tape = tape_of run;
+      has_tape = subst (λ l. HasTape known l (tape_of run)) (sym (reverse-reverse log)) (has_tape known log run k by);
+    }
 
 pub promised : (setup : Setup) (g : Standing) (log : List Step) (run : List Move) → Stands setup g log run → Promise setup (reverse log)
 promised setup g log run stands = (promised_by setup g log run stands).0

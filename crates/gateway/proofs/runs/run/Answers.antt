@@ -1,5 +1,3 @@
-use Rattle.nothing_smuggled.proofs.Fronts.{headline_smuggles_nothing}
-use Rattle.gateway.specs.Runs.{log_of}
 use Rattle.gateway.specs.Setups.{setup_of}
 use Rattle.gateway.proofs.Running.{explained}
 use Rattle.gateway.proofs.runs.run.Goals as goal
@@ -8,5 +6,4 @@ pub returns-in-Err-clause-refused : goal.returns-in-Err-clause-refused
 returns-in-Err-clause-refused c = explained (setup_of c.args.config.now) c.args.events.now c.run_into.new.outputs.items c.in-Err.fault c.in-Err.ensures.refused
 
 pub returns-in-Ok-clause-safe : goal.returns-in-Ok-clause-safe
-returns-in-Ok-clause-safe c =
-    headline_smuggles_nothing (setup_of c.args.config.now) (log_of c.args.events.now c.run_into.new.outputs.items) c.in-Ok.ensures.promised.headline
+returns-in-Ok-clause-safe c = c.in-Ok.ensures.promised.safe

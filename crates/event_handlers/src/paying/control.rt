@@ -1,7 +1,7 @@
 //! A frame beside responses is sent: all of them here, so that it is asked once whether too many
 //! octets are untaken for it.
 
-ghost use Rattle.std.specs.Prelude.{◌≡◌, ◌+◌, ◌∷◌, List, length, false, nat_lt, IfErr, OnOk};
+ghost use Rattle.std.specs.Prelude.{◌≡◌, ◌+◌, ◌≤◌, ◌∷◌, List, length, false, nat_lt, IfErr, OnOk};
 ghost use Rattle.model.specs.Limits.{most_untaken};
 ghost use Rattle.model.specs.Frames.{Frame, spell, settings_frame};
 ghost use Rattle.model.specs.Setup.{Setup};
@@ -56,7 +56,8 @@ pub(crate) enum Control<'a> {
 /// How many octets its frame is spelled with (RFC 9113, section 4.1).
 fn spelled_length(control: Control<'_>) -> u64
     requires { IsShort control }
-    ensures { result ≡ length (spell (frame_of control.entry)) }
+    ensures is { result ≡ length (spell (frame_of control.entry)) }
+    ensures few { result ≤ 16393 }
 {
     match control {
         Control::Settings => 21,
@@ -106,7 +107,7 @@ pub(crate) fn pay(
         calm(session, out)?;
         return Err(Halt::Over);
     }
-    count_untaken(session, spelled_length(control))?;
+    count_untaken(session, spelled_length(control));
     put_out(control, out)?;
     Ok(())
 }

@@ -14,24 +14,6 @@ pub mod EndingOpens
 pub mod EndingStarts
 pub mod EndingFrames
 pub mod EndingAnswers
-pub mod RunsGreeting
-pub mod RunsRequest
-pub mod RunsSteps
-pub mod RunsAnswer
-pub mod RunsFailure
-pub mod RunsWindow
-pub mod RunsBody
-pub mod RunsHold
-pub mod RunsBodyEnd
-pub mod RunsLimits
-mod WrongRules
-pub mod RunsStreaming
-pub mod RunsTurns
-pub mod RunsTurnsBlocks
-pub mod RunsTurnsAllowed
-pub mod RunsBothWays
-pub mod RunsHeard
-pub mod RunsPartsHeard
 pub mod Unended
 pub mod Verdicts
 pub mod Idling

@@ -35,11 +35,11 @@ use Rattle.theory.specs.Moves.Decision.{Takes, Hears, Goes, Sends, Acts}
 use Rattle.theory.specs.Moves.Move.{Does, Settles}
 use Rattle.theory.specs.State.{State, tape_of}
 use Rattle.theory.specs.Steps.{next}
-use Rattle.theory.proofs.RunsGreeting.{setup, frame, plain}
-use Rattle.theory.proofs.RunsRequest.{request_text, forwarded}
-use Rattle.theory.proofs.RunsAnswer.{answer_text, answer_head, news, ok, sized, head_out, heard_decision, one, at_forwarded}
-use Rattle.theory.proofs.RunsWindow.{sizes, raise, sent_one}
-use Rattle.theory.proofs.RunsBody.{get_row, first_given, silent_one}
+use Rattle.theory_runs.proofs.Greeting.{setup, frame, plain}
+use Rattle.theory_runs.proofs.Request.{request_text, forwarded}
+use Rattle.theory_runs.proofs.Answer.{answer_text, answer_head, news, ok, sized, head_out, heard_decision, one, at_forwarded}
+use Rattle.theory_runs.proofs.Window.{sizes, raise, sent_one}
+use Rattle.theory_runs.proofs.Body.{get_row, first_given, silent_one}
 
 -- ---- the moves
 

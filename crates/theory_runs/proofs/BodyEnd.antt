@@ -33,10 +33,10 @@ use Rattle.theory.specs.State.{State, tape_of}
 use Rattle.theory.specs.Rule.{MayDo, RestsBehind}
 use Rattle.theory.proofs.Keeping.{clauses}
 use Rattle.theory.specs.Steps.{told_by, Stands, next}
-use Rattle.theory.proofs.RunsSteps.{goes, settles, rests}
-use Rattle.theory.proofs.RunsGreeting.{setup, frame, plain, never}
-use Rattle.theory.proofs.RunsBody.{post_text, between, between_leads, between_rest, between_paid, none_cut_of, silent_one, get_row, ledger_of_all, first_given, second_given, at_between}
-use Rattle.theory.proofs.RunsHold.{known}
+use Rattle.theory_runs.proofs.Steps.{goes, settles, rests}
+use Rattle.theory_runs.proofs.Greeting.{setup, frame, plain, never}
+use Rattle.theory_runs.proofs.Body.{post_text, between, between_leads, between_rest, between_paid, none_cut_of, silent_one, get_row, ledger_of_all, first_given, second_given, at_between}
+use Rattle.theory_runs.proofs.Hold.{known}
 
 -- ---- the moves
 

@@ -36,9 +36,9 @@ use Rattle.theory.specs.Moves.Move.{Does, Settles}
 use Rattle.theory.specs.State.{State, tape_of}
 use Rattle.theory.specs.Rule.{MayDo, Rests, RestsBehind}
 use Rattle.theory.specs.Steps.{told_by, Stands, next}
-use Rattle.theory.proofs.RunsSteps.{goes, settles, rests}
-use Rattle.theory.proofs.RunsGreeting.{setup, frame, plain, never, none_kept}
-use Rattle.theory.proofs.RunsRequest.{request_text, forwarded, forwarded_allowed, one_whole, only_one}
+use Rattle.theory_runs.proofs.Steps.{goes, settles, rests}
+use Rattle.theory_runs.proofs.Greeting.{setup, frame, plain, never, none_kept}
+use Rattle.theory_runs.proofs.Request.{request_text, forwarded, forwarded_allowed, one_whole, only_one}
 
 -- ---- the moves
 

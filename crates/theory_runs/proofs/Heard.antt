@@ -23,9 +23,9 @@ use Rattle.theory_requests.specs.Lines.Heard.{Finished}
 use Rattle.theory.specs.State.{tape_of}
 use Rattle.theory.specs.Answered.{IsHeardBy, IsAnswered}
 use Rattle.theory.proofs.Keeping.{IsKnown, clauses, in_turn}
-use Rattle.theory.proofs.RunsRequest.{forwarded}
-use Rattle.theory.proofs.RunsAnswer.{answer_text, news, heard_decision, answered, answered_leads, answered_rests}
-use Rattle.theory.proofs.RunsHold.{known}
+use Rattle.theory_runs.proofs.Request.{forwarded}
+use Rattle.theory_runs.proofs.Answer.{answer_text, news, heard_decision, answered, answered_leads, answered_rests}
+use Rattle.theory_runs.proofs.Hold.{known}
 
 -- ---- the news
 

@@ -28,12 +28,12 @@ use Rattle.theory.specs.Moves.Move.{Does, Settles}
 use Rattle.theory.specs.State.{State, tape_of}
 use Rattle.theory.specs.Rule.{MayDo, Rests, RestsBehind}
 use Rattle.theory.specs.Steps.{told_by, Stands, next}
-use Rattle.theory.proofs.RunsSteps.{goes, settles, rests}
-use Rattle.theory.proofs.RunsGreeting.{setup, frame, plain, never, none_kept}
-use Rattle.theory.proofs.RunsRequest.{forwarded, one_whole, only_one}
-use Rattle.theory.proofs.RunsAnswer.{one, at_forwarded, forwarded_leads, forwarded_rest}
-use Rattle.theory.proofs.RunsFailure.{bad, empty, with_bad, with_both, reply_block, failed_decision, caused, own_reply, bad_inserted, empty_inserted}
-use Rattle.theory.proofs.RunsWindow.{ledger_sized}
+use Rattle.theory_runs.proofs.Steps.{goes, settles, rests}
+use Rattle.theory_runs.proofs.Greeting.{setup, frame, plain, never, none_kept}
+use Rattle.theory_runs.proofs.Request.{forwarded, one_whole, only_one}
+use Rattle.theory_runs.proofs.Answer.{one, at_forwarded, forwarded_leads, forwarded_rest}
+use Rattle.theory_runs.proofs.Failure.{bad, empty, with_bad, with_both, reply_block, failed_decision, caused, own_reply, bad_inserted, empty_inserted}
+use Rattle.theory_runs.proofs.Window.{ledger_sized}
 
 -- ---- the moves
 

@@ -34,11 +34,11 @@ use Rattle.theory.specs.Rule.{rooms_in, MayDo, Rests, RestsBehind}
 use Rattle.model.specs.Headline.{ClausesHold}
 use Rattle.theory.proofs.Keeping.{clauses}
 use Rattle.theory.specs.Steps.{told_by, Stands, next}
-use Rattle.theory.proofs.RunsSteps.{goes, settles, rests}
-use Rattle.theory.proofs.RunsGreeting.{setup, frame, plain, never, none_kept, ours, theirs, acked}
-use Rattle.theory.proofs.RunsRequest.{one_whole, only_one, first_route}
-use Rattle.theory.proofs.RunsAnswer.{at_forwarded}
-use Rattle.theory.proofs.RunsBody.{first_given, silent_one, posting}
+use Rattle.theory_runs.proofs.Steps.{goes, settles, rests}
+use Rattle.theory_runs.proofs.Greeting.{setup, frame, plain, never, none_kept, ours, theirs, acked}
+use Rattle.theory_runs.proofs.Request.{one_whole, only_one, first_route}
+use Rattle.theory_runs.proofs.Answer.{at_forwarded}
+use Rattle.theory_runs.proofs.Body.{first_given, silent_one, posting}
 
 abbrev pub streaming : Setup
 streaming = record setup { passing = Streaming }

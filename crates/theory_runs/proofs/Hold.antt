@@ -10,10 +10,10 @@ use Rattle.theory_requests.specs.Lines.Heard.{Partly}
 use Rattle.theory.specs.State.{tape_of}
 use Rattle.theory.specs.Answered.{IsHeardBy}
 use Rattle.theory.proofs.Keeping.{IsKnown, clauses, in_turn}
-use Rattle.theory.proofs.RunsGreeting.{setup}
-use Rattle.theory.proofs.RunsRequest.{forwarded, forwarded_allowed, forwarded_rests}
-use Rattle.theory.proofs.RunsFailure.{replied_to, replied_leads, replied_rests}
-use Rattle.theory.proofs.RunsBody.{cancelled, cancelled_leads, cancelled_rests}
+use Rattle.theory_runs.proofs.Greeting.{setup}
+use Rattle.theory_runs.proofs.Request.{forwarded, forwarded_allowed, forwarded_rests}
+use Rattle.theory_runs.proofs.Failure.{replied_to, replied_leads, replied_rests}
+use Rattle.theory_runs.proofs.Body.{cancelled, cancelled_leads, cancelled_rests}
 
 -- no answer failed
 abbrev pub known : Known

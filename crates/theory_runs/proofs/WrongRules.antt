@@ -49,11 +49,11 @@ use Rattle.theory.specs.Moves.Decision.{Sends, Goes}
 use Rattle.theory.specs.State.{State, tape_of}
 use Rattle.theory.specs.Rule.{MayDo}
 use Rattle.theory.specs.Steps.{told_by}
-use Rattle.theory.proofs.RunsGreeting.{setup as one_route, frame, plain, greeted}
-use Rattle.theory.proofs.RunsRequest.{forwarded}
-use Rattle.theory.proofs.RunsAnswer.{ok, sized, encoded, begun, at_forwarded, at_begun, half_out}
-use Rattle.theory.proofs.RunsFailure.{bad, empty, with_both, reply_out}
-use Rattle.theory.proofs.RunsWindow as window
+use Rattle.theory_runs.proofs.Greeting.{setup as one_route, frame, plain, greeted}
+use Rattle.theory_runs.proofs.Request.{forwarded}
+use Rattle.theory_runs.proofs.Answer.{ok, sized, encoded, begun, at_forwarded, at_begun, half_out}
+use Rattle.theory_runs.proofs.Failure.{bad, empty, with_both, reply_out}
+use Rattle.theory_runs.proofs.Window as window
 
 module _ (setup : Setup) (s u : Summary) (x : State) where
   -- the decision may be done here

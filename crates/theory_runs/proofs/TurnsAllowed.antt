@@ -14,14 +14,14 @@ use Rattle.theory.specs.Moves.Decision.{Hears, Acts}
 use Rattle.theory.specs.Moves.Move.{Does}
 use Rattle.theory.specs.Rule.{MayDo, Rests, RestsBehind}
 use Rattle.theory.specs.Steps.{told_by, Stands}
-use Rattle.theory.proofs.RunsSteps.{goes, settles, rests}
-use Rattle.theory.proofs.RunsGreeting.{setup, never, none_kept}
-use Rattle.theory.proofs.RunsRequest.{request_text, forwarded, first_route}
-use Rattle.theory.proofs.RunsAnswer.{answer_text, news, heard_decision, at_forwarded, forwarded_leads, forwarded_rest, each_one}
-use Rattle.theory.proofs.RunsWindow.{raise}
-use Rattle.theory.proofs.RunsBody.{silent_one, none_cut_of, AllPaid, change_paid, owes_no_more, forwarded_paid, get_read}
-use Rattle.theory.proofs.RunsTurns.{lower, ack_first, asked_decision, early_text, early_head, early_news, ack_again, early_decision, first_decision, second_decision, h_decision, i_decision, lowered, both_asked, hinted, first_begun, both_begun, raised, half_out, all_out, boxed, whole, body_left, last_left, first_live, second_live, at_lowered, at_acked, at_asked, at_opened, at_put, at_both_asked, at_told, at_hinted, at_first_heard, at_first_closed, at_first_begun, at_second_heard, at_second_closed, at_both_begun, at_raised, at_acked_again, at_first_half, at_half_out, at_first_out, at_both_out, at_all_out}
-use Rattle.theory.proofs.RunsTurnsBlocks.{early_encoded, first_encoded, second_encoded}
+use Rattle.theory_runs.proofs.Steps.{goes, settles, rests}
+use Rattle.theory_runs.proofs.Greeting.{setup, never, none_kept}
+use Rattle.theory_runs.proofs.Request.{request_text, forwarded, first_route}
+use Rattle.theory_runs.proofs.Answer.{answer_text, news, heard_decision, at_forwarded, forwarded_leads, forwarded_rest, each_one}
+use Rattle.theory_runs.proofs.Window.{raise}
+use Rattle.theory_runs.proofs.Body.{silent_one, none_cut_of, AllPaid, change_paid, owes_no_more, forwarded_paid, get_read}
+use Rattle.theory_runs.proofs.Turns.{lower, ack_first, asked_decision, early_text, early_head, early_news, ack_again, early_decision, first_decision, second_decision, h_decision, i_decision, lowered, both_asked, hinted, first_begun, both_begun, raised, half_out, all_out, boxed, whole, body_left, last_left, first_live, second_live, at_lowered, at_acked, at_asked, at_opened, at_put, at_both_asked, at_told, at_hinted, at_first_heard, at_first_closed, at_first_begun, at_second_heard, at_second_closed, at_both_begun, at_raised, at_acked_again, at_first_half, at_half_out, at_first_out, at_both_out, at_all_out}
+use Rattle.theory_runs.proofs.TurnsBlocks.{early_encoded, first_encoded, second_encoded}
 
 -- ---- turns
 

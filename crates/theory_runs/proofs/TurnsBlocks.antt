@@ -11,9 +11,9 @@ use Rattle.header_blocks.proofs.RawStrings.{one_octet, one_octet_chosen}
 use Rattle.header_blocks.proofs.ShortStrings.{huffman_text, few_octets, few_octets_chosen}
 use Rattle.theory_header_tables.specs.Rule.{IsEncoded}
 use Rattle.theory_header_tables.proofs.Searching.{absent, absent_below}
-use Rattle.theory.proofs.RunsAnswer.{ok, sized, is_length_name, begins_with_two}
-use Rattle.theory.proofs.RunsFailure.{status_named_above}
-use Rattle.theory.proofs.RunsTurns.{early, with_early, with_both, at_told, at_first_closed, at_second_closed}
+use Rattle.theory_runs.proofs.Answer.{ok, sized, is_length_name, begins_with_two}
+use Rattle.theory_runs.proofs.Failure.{status_named_above}
+use Rattle.theory_runs.proofs.Turns.{early, with_early, with_both, at_told, at_first_closed, at_second_closed}
 
 -- ---- the blocks
 

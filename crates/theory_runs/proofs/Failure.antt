@@ -32,10 +32,10 @@ use Rattle.theory.specs.Moves.Move.{Does, Settles}
 use Rattle.theory.specs.State.{State, tape_of}
 use Rattle.theory.specs.Rule.{MayDo, RestsBehind}
 use Rattle.theory.specs.Steps.{told_by, Stands, next}
-use Rattle.theory.proofs.RunsSteps.{goes, settles, rests}
-use Rattle.theory.proofs.RunsGreeting.{setup, frame, never, none_kept}
-use Rattle.theory.proofs.RunsRequest.{forwarded, one_whole, only_one}
-use Rattle.theory.proofs.RunsAnswer.{one, ledger_with, at_forwarded, forwarded_leads, forwarded_rest, is_length_name}
+use Rattle.theory_runs.proofs.Steps.{goes, settles, rests}
+use Rattle.theory_runs.proofs.Greeting.{setup, frame, never, none_kept}
+use Rattle.theory_runs.proofs.Request.{forwarded, one_whole, only_one}
+use Rattle.theory_runs.proofs.Answer.{one, ledger_with, at_forwarded, forwarded_leads, forwarded_rest, is_length_name}
 
 -- ---- the moves
 

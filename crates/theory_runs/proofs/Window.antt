@@ -27,10 +27,10 @@ use Rattle.theory.specs.Moves.Move.{Does, Settles}
 use Rattle.theory.specs.State.{State, tape_of}
 use Rattle.theory.specs.Rule.{MayDo, Rests, RestsBehind}
 use Rattle.theory.specs.Steps.{told_by, Stands, next}
-use Rattle.theory.proofs.RunsSteps.{goes, settles, rests}
-use Rattle.theory.proofs.RunsGreeting.{setup, frame, plain, never, none_kept}
-use Rattle.theory.proofs.RunsRequest.{forwarded, one_whole, only_one}
-use Rattle.theory.proofs.RunsAnswer.{answer_head, encoded, head_out, heard_decision, head_decision, one, ledger_with, at_forwarded, forwarded_leads, forwarded_rest, each_one, answer_encoded}
+use Rattle.theory_runs.proofs.Steps.{goes, settles, rests}
+use Rattle.theory_runs.proofs.Greeting.{setup, frame, plain, never, none_kept}
+use Rattle.theory_runs.proofs.Request.{forwarded, one_whole, only_one}
+use Rattle.theory_runs.proofs.Answer.{answer_head, encoded, head_out, heard_decision, head_decision, one, ledger_with, at_forwarded, forwarded_leads, forwarded_rest, each_one, answer_encoded}
 
 -- ---- the moves
 

@@ -32,14 +32,14 @@ use Rattle.theory.specs.Moves.Move.{Does, Settles}
 use Rattle.theory.specs.State.{State, tape_of}
 use Rattle.theory.specs.Rule.{rooms_in, MayDo, Rests, RestsBehind}
 use Rattle.theory.specs.Steps.{told_by, Stands, next}
-use Rattle.theory.proofs.RunsSteps.{goes, settles, rests}
-use Rattle.theory.proofs.RunsGreeting.{frame, plain, never, none_kept}
-use Rattle.theory.proofs.RunsRequest.{one_whole, only_one}
-use Rattle.theory.proofs.RunsAnswer.{answer_head, ok, sized, encoded, head_out, answer_encoded, each_one}
-use Rattle.theory.proofs.RunsBody.{posting}
-use Rattle.theory.proofs.RunsBodyEnd.{text_ends}
-use Rattle.theory.proofs.RunsTurns.{boxed, first_live}
-use Rattle.theory.proofs.RunsStreaming.{streaming, text, chunk, took_decision, shared_back, own_back, waits, at_waits, waits_rest, waits_leads}
+use Rattle.theory_runs.proofs.Steps.{goes, settles, rests}
+use Rattle.theory_runs.proofs.Greeting.{frame, plain, never, none_kept}
+use Rattle.theory_runs.proofs.Request.{one_whole, only_one}
+use Rattle.theory_runs.proofs.Answer.{answer_head, ok, sized, encoded, head_out, answer_encoded, each_one}
+use Rattle.theory_runs.proofs.Body.{posting}
+use Rattle.theory_runs.proofs.BodyEnd.{text_ends}
+use Rattle.theory_runs.proofs.Turns.{boxed, first_live}
+use Rattle.theory_runs.proofs.Streaming.{streaming, text, chunk, took_decision, shared_back, own_back, waits, at_waits, waits_rest, waits_leads}
 
 -- ---- the moves
 

@@ -32,9 +32,9 @@ use Rattle.theory_requests.specs.Lines.Heard.{Partly, Finished}
 use Rattle.theory.specs.State.{tape_of}
 use Rattle.theory.specs.Answered.{IsHeardBy, IsAnswered}
 use Rattle.theory.proofs.Keeping.{IsKnown, clauses, in_turn}
-use Rattle.theory.proofs.RunsBody.{first_given}
-use Rattle.theory.proofs.RunsStreaming.{streaming, waits}
-use Rattle.theory.proofs.RunsBothWays.{begin_text, begin_news, end_news, begin_decision, end_decision, ended, all_back, all_back_leads, all_back_rests}
+use Rattle.theory_runs.proofs.Body.{first_given}
+use Rattle.theory_runs.proofs.Streaming.{streaming, waits}
+use Rattle.theory_runs.proofs.BothWays.{begin_text, begin_news, end_news, begin_decision, end_decision, ended, all_back, all_back_leads, all_back_rests}
 
 -- no answer failed
 abbrev pub known : Known

@@ -33,10 +33,10 @@ use Rattle.theory.specs.Moves.Move.{Does, Settles}
 use Rattle.theory.specs.State.{State, tape_of}
 use Rattle.theory.specs.Rule.{MayDo, Rests, RestsBehind}
 use Rattle.theory.specs.Steps.{told_by, Stands, next}
-use Rattle.theory.proofs.RunsSteps.{goes, settles, rests}
-use Rattle.theory.proofs.RunsGreeting.{setup, frame, plain, never}
-use Rattle.theory.proofs.RunsRequest.{request_text, forwarded, first_route}
-use Rattle.theory.proofs.RunsAnswer.{one, at_forwarded, forwarded_leads, forwarded_rest}
+use Rattle.theory_runs.proofs.Steps.{goes, settles, rests}
+use Rattle.theory_runs.proofs.Greeting.{setup, frame, plain, never}
+use Rattle.theory_runs.proofs.Request.{request_text, forwarded, first_route}
+use Rattle.theory_runs.proofs.Answer.{one, at_forwarded, forwarded_leads, forwarded_rest}
 
 -- ---- the moves
 

@@ -18,7 +18,7 @@ use Rattle.theory.specs.Moves.Decision.{Takes, Acts}
 use Rattle.theory.specs.Moves.Move.{Does, Settles}
 use Rattle.theory.specs.State.{tape_of, state_of}
 use Rattle.theory.specs.Rule.{AllAllowed, RestsBehind}
-use Rattle.theory.proofs.RunsGreeting.{setup, frame, May, never, greeted, greeted_allowed, greeted_rests}
+use Rattle.theory_runs.proofs.Greeting.{setup, frame, May, never, greeted, greeted_allowed, greeted_rests}
 
 -- ---- the moves
 

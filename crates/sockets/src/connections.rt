@@ -213,7 +213,9 @@ impl<'a, N: Net + Clock, S: Wire> Sockets<'a, N, S> {
         self.is_late() && !self.upstreams.is_empty()
     }
 
-    /// An event that is there already. Where nothing may be read any more, what waits for the client is written.
+    /// An event that is there already. Where nothing may be read any more, it is told first what
+    /// upstreams took, since octets for the client may come of that, and then what waits for the
+    /// client is written.
     fn find_event(
         &mut self,
         rooms: &[(u32, usize)],
@@ -224,15 +226,17 @@ impl<'a, N: Net + Clock, S: Wire> Sockets<'a, N, S> {
         ensures queued { OnOk result (HasQueued self.old → HasQueued self.new) }
         ensures first { IfOk result (λ event. HasQueued self.old → HearsFirst idle.now event self.old self.new) }
     {
-        let count = self.client.tell(TOLD_AT_ONCE);
-        if count > 0 {
-            return Ok(Some(Event::ClientTook(count)));
+        if let Some(event) = self.tell_client(TOLD_AT_ONCE) {
+            return Ok(Some(event));
         }
         if let Some(event) = self.read_ready(rooms, idle)? {
             return Ok(Some(event));
         }
+        if let Some(event) = self.tell_upstream() {
+            return Ok(Some(event));
+        }
         self.client.flush(self.reporting.registry())?;
-        Ok(self.tell())
+        Ok(self.tell_client(1))
     }
 
     /// The event that a read gives, of the first socket in turn whose read gives one; connections
@@ -386,6 +390,20 @@ impl<'a, N: Net + Clock, S: Wire> Sockets<'a, N, S> {
         ensures heard { self.new.heard_at ≡ self.old.heard_at }
         ensures told { is_of_client result ≡ false }
     {
+        if let Some(event) = self.tell_upstream() {
+            return Some(event);
+        }
+        self.tell_client(1)
+    }
+
+    /// What an upstream took that wasn't told of, if one took some.
+    fn tell_upstream(&mut self) -> Option<Event>
+        ensures moves { MovesOn S.left S.held (Ok result) self.old.client self.old.upstreams.items self.new.client self.new.upstreams.items }
+        ensures fits { (rooms : List (ℕ × ℕ)) → Fits rooms result }
+        ensures queued { HasQueued self.old → HasQueued self.new }
+        ensures heard { self.new.heard_at ≡ self.old.heard_at }
+        ensures told { is_of_client result ≡ false }
+    {
         for _ in 0..self.writes.len() {
             let k = self.writes.pop_front()?;
             if let Some(place) = place_of(k, &self.upstreams) {
@@ -395,10 +413,22 @@ impl<'a, N: Net + Clock, S: Wire> Sockets<'a, N, S> {
                 }
             }
         }
-        match self.client.tell(1) {
-            0 => None,
-            count => Some(Event::ClientTook(count)),
+        None
+    }
+
+    /// What the client's socket took that wasn't told of, if it took some, and so many at least.
+    fn tell_client(&mut self, least: u64) -> Option<Event>
+        ensures moves { MovesOn S.left S.held (Ok result) self.old.client self.old.upstreams.items self.new.client self.new.upstreams.items }
+        ensures fits { (rooms : List (ℕ × ℕ)) → Fits rooms result }
+        ensures queued { HasQueued self.old → HasQueued self.new }
+        ensures heard { self.new.heard_at ≡ self.old.heard_at }
+        ensures told { is_of_client result ≡ false }
+    {
+        let count = self.client.tell(least);
+        if count > 0 {
+            return Some(Event::ClientTook(count));
         }
+        None
     }
 
     /// Waits until a socket is reported, at most so long where that is said, notes what is, and

@@ -2,7 +2,7 @@ use Rattle.std.proofs.Common.{◌≡◌}
 use Rattle.std.specs.Prelude.{None, Ok}
 use Rattle.sockets.specs.Performed.{MovesOn}
 use Rattle.sockets.specs.Queues.{HasQueued}
-use Rattle.sockets.proofs.connections.Sockets.tell.Given as goal
+use Rattle.sockets.proofs.connections.Sockets.tell_upstream.Given as goal
 
 abbrev pub invariant-loop : goal.invariant-loop
 invariant-loop g l = record {

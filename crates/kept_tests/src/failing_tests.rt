@@ -19,8 +19,8 @@ use std::test::*;
 /// A world whose upstreams may go wrong.
 type FaultyWorld<'a> = SocketWorld<'a, HostRuntime, Faulty>;
 
-/// What comes of the connection between its response and the client's second request, by the
-/// fault's place, but of one that would block: nothing is known then of what comes later.
+/// What comes of connection 1 between its response and the client's second request, by the fault at
+/// each place but of one that would block: nothing is known then of what comes later.
 const BETWEEN: [(u8, Came); 5] = [
     (0, Came::UpFailed(1)),
     (1, Came::UpFailed(1)),
@@ -49,10 +49,7 @@ fn assert_heard_first(
         Came::Up(2),
         Came::ClientEnd,
     ];
-    assert_eq!(rt;
-        (place, seen.came.as_slice()),
-        (place, wanted.as_slice())
-    );
+    assert_eq!(rt; (place, seen.came.as_slice()), (place, wanted.as_slice()));
     assert_right(rt, &trial, &seen);
     Ok(())
 }
@@ -79,10 +76,10 @@ fn a_request_is_read_behind_what_goes_wrong(rt: HostRuntime) -> Result<(), Fail>
     Ok(())
 }
 
-/// Before each turn there is room for what comes of two connections.
+/// There is room for what comes of two connections.
 const ROOMS: [(u32, usize); 2] = [(1, 65536), (2, 10)];
 
-/// What comes of a world before which its client sends an octet, where these are idle.
+/// What comes of a world whose client sent an octet, where these connections are idle.
 fn turn(world: &mut FaultyWorld<'_>, client: &mut TcpStream, idle: &[u32]) -> Option<Came>
     requires calls { world.old.calls + 1 < 2 ^ 64 }
     requires failures { world.old.failures + 1 < 2 ^ 64 }
@@ -114,8 +111,8 @@ fn told_turn(
 /// What comes in three turns and in three more.
 type Turns = [[Option<Came>; 3]; 2];
 
-/// What comes where connection 1 is idle from the second turn on. Its upstream sends what it gives
-/// as it should and more at first, and once more behind the third turn.
+/// What comes where connection 1 is idle from the second turn on. Its upstream sends at first a
+/// response with more behind it, and an octet behind the third turn.
 fn turns_of_idle(
     world: &mut FaultyWorld<'_>,
     reactor: &mut Option<Reactor>,
@@ -149,18 +146,33 @@ const FAILED: Option<Came> = Some(Came::UpFailed(1));
 
 const END: Option<Came> = Some(Came::UpEnd(1));
 
-/// What comes by each fault in these turns: all that can be known of connection 1 comes before the
-/// client. Where a read would block there is nothing to be known until more is sent.
-const TURNS: [Turns; 6] = [
-    [[UP, FAILED, CLIENT], [CLIENT; 3]],
-    [[UP, FAILED, CLIENT], [CLIENT; 3]],
-    [[UP, UP, CLIENT], [UP, CLIENT, CLIENT]],
-    [[UP, CLIENT, CLIENT], [UP, CLIENT, CLIENT]],
-    [[UP, END, CLIENT], [CLIENT; 3]],
-    [[UP; 3], [UP, FAILED, CLIENT]],
+/// What comes in these turns by the fault at each place: all that can be known of connection 1 comes
+/// before the client. Where a read would block there is nothing to be known until more is sent.
+const TURNS: [(u8, Turns); 6] = [
+    (0, [[UP, FAILED, CLIENT], [CLIENT; 3]]),
+    (1, [[UP, FAILED, CLIENT], [CLIENT; 3]]),
+    (2, [[UP, UP, CLIENT], [UP, CLIENT, CLIENT]]),
+    (3, [[UP, CLIENT, CLIENT], [UP, CLIENT, CLIENT]]),
+    (4, [[UP, END, CLIENT], [CLIENT; 3]]),
+    (5, [[UP; 3], [UP, FAILED, CLIENT]]),
 ];
 
-/// A client and its world, by these sources, or with a poll of its own.
+/// A world of a client's socket, by these sources, or with a poll of its own.
+fn world_of<'a>(
+    host: &'a HostRuntime,
+    addresses: &'a [SocketAddr],
+    sources: Option<&'a Registry>,
+    far: Faulty,
+) -> io::Result<FaultyWorld<'a>>
+    ensures { IfOk result (λ world. (world.calls ≡ 0) × (world.failures ≡ 0)) }
+{
+    match sources {
+        Some(sources) => SocketWorld::under(host.alloc(), host, addresses, sources, 1, far),
+        None => SocketWorld::new(host.alloc(), host, addresses, far),
+    }
+}
+
+/// A client and its world.
 fn begin<'a>(
     host: &'a HostRuntime,
     addresses: &'a [SocketAddr],
@@ -169,20 +181,12 @@ fn begin<'a>(
     ensures { IfOk result (λ both. (both.1.calls ≡ 0) × (both.1.failures ≡ 0)) }
 {
     let (client, far) = pair(host)?;
-    let far = Faulty::client(far);
-    let world = match sources {
-        Some(sources) => SocketWorld::under(host.alloc(), host, addresses, sources, 1, far)?,
-        None => SocketWorld::new(host.alloc(), host, addresses, far)?,
-    };
+    let world = world_of(host, addresses, sources, Faulty::client(far))?;
     Ok((client, world))
 }
 
 /// Opens a connection to the upstream of the only route: its other end.
-fn open(
-    world: &mut FaultyWorld<'_>,
-    listener: &TcpListener,
-    number: u32,
-) -> Result<TcpStream, Fail>
+fn open(world: &mut FaultyWorld<'_>, listener: &TcpListener, number: u32) -> Result<TcpStream, Fail>
     requires { world.old.failures + 1 < 2 ^ 64 }
     ensures calls { world.new.calls ≡ world.old.calls }
     ensures failures { OnOk result (world.new.failures ≡ world.old.failures) }
@@ -192,40 +196,31 @@ fn open(
     Ok(upstream)
 }
 
-/// These turns come of a world alone, by the fault at this place.
-fn assert_turns(rt: &impl Abort, host: &HostRuntime, place: u8, wanted: Turns) -> Result<(), Fail> {
-    let listener = waiting_listener(host, Ipv4Addr::UNSPECIFIED)?;
-    let addresses = [Faulty::address(place, listener.local_addr()?.port())];
-    let (mut client, mut world) = begin(host, &addresses, None)?;
-    let mut upstream = open(&mut world, &listener, 1)?;
-    let came = turns_of_idle(&mut world, &mut None, &mut client, &mut upstream)?;
-    assert_eq!(rt; (place, came), (place, wanted));
-    Ok(())
-}
-
-/// So do they of a world under a reactor.
-fn assert_turns_told(
+/// These turns come by the fault at this place, of a world by these sources or of one alone.
+fn assert_turns(
     rt: &impl Abort,
     host: &HostRuntime,
-    place: u8,
-    wanted: Turns,
+    sources: Option<&Registry>,
+    reactor: &mut Option<Reactor>,
+    row: (u8, Turns),
 ) -> Result<(), Fail> {
+    let (place, wanted) = row;
     let listener = waiting_listener(host, Ipv4Addr::UNSPECIFIED)?;
     let addresses = [Faulty::address(place, listener.local_addr()?.port())];
-    let reactor = Reactor::new(host.alloc(), host)?;
-    let sources = reactor.sources()?;
-    let (mut client, mut world) = begin(host, &addresses, Some(&sources))?;
+    let (mut client, mut world) = begin(host, &addresses, sources)?;
     let mut upstream = open(&mut world, &listener, 1)?;
-    let came = turns_of_idle(&mut world, &mut Some(reactor), &mut client, &mut upstream)?;
+    let came = turns_of_idle(&mut world, reactor, &mut client, &mut upstream)?;
     assert_eq!(rt; (place, came), (place, wanted));
     Ok(())
 }
 
 #[test]
 fn an_idle_one_is_heard_to_its_end(rt: HostRuntime) -> Result<(), Fail> {
-    for (place, wanted) in (0..6_u8).zip(TURNS) {
-        assert_turns(&rt, &rt, place, wanted)?;
-        assert_turns_told(&rt, &rt, place, wanted)?;
+    for row in TURNS {
+        assert_turns(&rt, &rt, None, &mut None, row)?;
+        let reactor = Reactor::new(rt.alloc(), &rt)?;
+        let sources = reactor.sources()?;
+        assert_turns(&rt, &rt, Some(&sources), &mut Some(reactor), row)?;
     }
     Ok(())
 }

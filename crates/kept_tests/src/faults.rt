@@ -1,5 +1,7 @@
 //! Sockets of upstreams that go wrong behind what came of them at first.
 
+ghost use Rattle.std.specs.Io.{ReadsAtMost};
+
 use mio::net::TcpStream;
 use mio::{Interest, Registry, Token};
 use socket_io::Socket;
@@ -59,7 +61,9 @@ impl Faulty {
     }
 
     /// Reads where it goes wrong.
-    fn receive_wrong(&mut self, fault: Fault, room: &mut [u8]) -> io::Result<usize> {
+    fn receive_wrong(&mut self, fault: Fault, room: &mut [u8]) -> io::Result<usize>
+        ensures { ReadsAtMost result room.new }
+    {
         match fault {
             Fault::Fails(kind) => Err(io::Error::from(kind)),
             Fault::FailsOnce(kind) => {
@@ -101,9 +105,11 @@ impl Socket for Faulty {
             return self.receive_wrong(fault, room);
         }
         let most = room.len().min(self.sound);
-        let count = self.near.receive(&mut room[..most])?;
-        self.sound = self.sound.saturating_sub(count);
-        Ok(count)
+        let received = self.near.receive(&mut room[..most]);
+        if let Ok(count) = &received {
+            self.sound = self.sound.saturating_sub(*count);
+        }
+        received
     }
 
     fn send(&mut self, octets: &[u8]) -> io::Result<usize> {

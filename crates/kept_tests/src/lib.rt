@@ -14,3 +14,5 @@ mod kept_tests;
 mod meeting;
 #[cfg(test)]
 mod peers;
+#[cfg(test)]
+mod several_tests;

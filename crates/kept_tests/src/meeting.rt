@@ -1,6 +1,6 @@
 //! A client and a server that meet over a world of sockets: all that they send is there at once.
 
-ghost use Rattle.std.specs.Prelude.{◌≡◌, IfOk, ⊤};
+ghost use Rattle.std.specs.Prelude.{◌≡◌, [], ⊤};
 ghost use Rattle.gateway.specs.Setups.{setup_of, IsServable};
 
 use crate::peers::{Case, Peers};
@@ -143,18 +143,18 @@ pub(crate) fn route_of(alloc: Global, authority: &[u8]) -> Result<Route, AllocEr
     })
 }
 
-/// A configuration with one route, for every request, whose connections are kept.
-fn config_of(alloc: Global, passing: Passing) -> Result<Config, AllocError>
-    ensures { IfOk result (λ config. IsServable (setup_of config)) }
+/// A configuration without a route, whose connections are kept.
+pub(crate) fn config_of(alloc: Global, passing: Passing) -> Config
+    ensures servable { IsServable (setup_of result) }
+    ensures routes { result.routes.items ≡ [] }
 {
-    let route = route_of(alloc, b"")?;
-    Ok(Config {
+    Config {
         passing,
         max_body: 1,
         max_response: 200_000,
         keep: true,
-        ..Config::new(vec![in alloc; route]?)
-    })
+        ..Config::new(Vec::new(alloc))
+    }
 }
 
 /// How serving ended, what became of the peers, and what came.
@@ -175,7 +175,8 @@ fn serve_world<S: Wire>(
 ) -> Result<Seen, Fail>
     requires { (world.calls ≡ 0) × (world.failures ≡ 0) }
 {
-    let config = config_of(alloc, passing)?;
+    let mut config = config_of(alloc, passing);
+    config.routes.push(route_of(alloc, b"")?)?;
     let seen = Sight {
         came: Vec::new(alloc),
         is_taken: false,

@@ -222,7 +222,7 @@ impl Server {
 #[derive(Drop)]
 pub(crate) struct Client {
     socket: Option<TcpStream>,
-    name: u8,
+    pub(crate) name: u8,
     asks_again: bool,
     /// What it read that is no whole frame yet.
     unread: Vec<u8>,

@@ -1,6 +1,6 @@
 //! Clients that are served at once.
 
-ghost use Rattle.std.specs.Prelude.{◌≡◌, ◌<◌, ◌≤◌, length, get_or, vec_len, IfErr, IfSome};
+ghost use Rattle.std.specs.Prelude.{◌≡◌, ◌<◌, ◌≤◌, ◌==◌, ◌&&◌, nat_le, length, get_or, vec_len, IfErr, IfSome};
 ghost use Rattle.gateway.specs.Setups.{setup_of, IsServable};
 ghost use Rattle.h2gw_setup.specs.Stops.{status_of};
 
@@ -25,9 +25,10 @@ const MOST_LOOKS: u32 = 64;
 /// After so many seconds it is looked after clients that are idle or being left.
 const TICK: u64 = 1;
 
-/// The clients that are there, and those that come.
+/// The clients that are there, and those that come. All are served if rounds are taken until it is
+/// over.
 #[derive(Drop)]
-struct Crowd<'a> {
+pub struct Crowd<'a> {
     entrance: Entrance,
     /// By rising number.
     clients: Vec<Client<'a>>,
@@ -73,9 +74,7 @@ fn serve_by(common: &Common<'_>, reactor: &mut Reactor, listener: TcpListener) -
         if crowd.is_over() {
             break;
         }
-        crowd.wait(common, reactor)?;
-        let is_told = crowd.hear_all(common, reactor)?;
-        crowd.go_on(common, is_told)?;
+        crowd.take_round(common, reactor)?;
     }
     Ok(())
 }
@@ -91,8 +90,9 @@ fn stop_of(error: &io::Error) -> Stop
 }
 
 impl<'a> Crowd<'a> {
-    /// No clients as yet, and room for as many as may be there at once.
-    fn new(common: &Common<'a>, listener: TcpListener) -> Result<Crowd<'a>, Stop>
+    /// No clients as yet, and room for as many as may be there at once. They come at this listener,
+    /// which doesn't wait.
+    pub fn new(common: &Common<'a>, listener: TcpListener) -> Result<Crowd<'a>, Stop>
         ensures { IfErr result (λ stop. 2 ≤ status_of stop) }
     {
         let alloc = common.rt.alloc();
@@ -108,8 +108,21 @@ impl<'a> Crowd<'a> {
     }
 
     /// Whether all connections were served.
-    fn is_over(&self) -> bool {
+    pub fn is_over(&self) -> bool
+        ensures { result ≡ (length self.now.clients.items == 0 && nat_le self.now.entrance.most self.now.entrance.came) }
+    {
         self.clients.is_empty() && self.entrance.is_over()
+    }
+
+    /// A round: waits until something is reported, or is to be done, heeds what was reported, and
+    /// lets those who have something left have their turns.
+    pub fn take_round(&mut self, common: &Common<'a>, reactor: &mut Reactor) -> Result<(), Stop>
+        requires { IsServable (setup_of common.now.setting.now.config) }
+        ensures { IfErr result (λ stop. 2 ≤ status_of stop) }
+    {
+        self.wait(common, reactor)?;
+        let is_told = self.hear_all(common, reactor)?;
+        self.go_on(common, is_told)
     }
 
     /// Waits until something is reported, or is to be done.

@@ -9,5 +9,6 @@ mod listening;
 mod log;
 mod watched;
 
-pub use crowd::serve_crowd;
+pub use client::Common;
+pub use crowd::{Crowd, serve_crowd};
 pub use listening::{serve_at, serve_clients};

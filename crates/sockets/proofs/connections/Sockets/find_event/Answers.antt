@@ -1,9 +1,11 @@
+use Rattle.std.proofs.Common.{subst}
 use Rattle.std.specs.Prelude.{None, Ok}
+use Rattle.sockets.specs.Performed.{Fits}
 use Rattle.sockets.proofs.Moving.{moves_twice, moves_on, moves_failed, moves_quiet, client_moves, side_flushed}
 use Rattle.sockets.proofs.connections.Sockets.find_event.Goals as goal
 
 pub returns-in-Some-clause-fits : goal.returns-in-Some-clause-fits
-returns-in-Some-clause-fits g c = rw (← c.in-Some.is) (c.tell_client.ensures.fits c.args.rooms.now)
+returns-in-Some-clause-fits g c = subst (Fits c.args.rooms.now) c.in-Some.is (c.tell_client.ensures.fits c.args.rooms.now)
 
 pub returns-in_err-event-clause-moves : goal.returns-in_err-event-clause-moves
 returns-in_err-event-clause-moves g c =
@@ -22,7 +24,7 @@ returns-in-Some-tell_upstream-clause-moves g c =
     moves_twice _ _ _ _ _ _ _ _ _ untold (moves_twice _ _ _ _ _ _ _ _ _ found (rw (← c.in-Some-tell_upstream.is) c.tell_upstream.ensures.moves))
 
 pub returns-in-Some-tell_upstream-clause-fits : goal.returns-in-Some-tell_upstream-clause-fits
-returns-in-Some-tell_upstream-clause-fits g c = rw (← c.in-Some-tell_upstream.is) (c.tell_upstream.ensures.fits c.args.rooms.now)
+returns-in-Some-tell_upstream-clause-fits g c = subst (Fits c.args.rooms.now) c.in-Some-tell_upstream.is (c.tell_upstream.ensures.fits c.args.rooms.now)
 
 pub returns-in_err-flush-clause-moves : goal.returns-in_err-flush-clause-moves
 returns-in_err-flush-clause-moves g c =

@@ -1,6 +1,6 @@
 -- What a world in memory keeps: an output stands behind those of the last step.
 use Rattle.std.proofs.Common.{◌≡◌, ℕ, zero, suc, ◌+◌, List, [], ◌∷◌, ◌++◌, length, refl, ap, ◌∙◌, arith, slice_index_or, slice_set, Ok, Err, Result}
-use Rattle.std.specs.Prelude.{OnErr}
+use Rattle.std.specs.Prelude.{OnErr, ◌<◌, ◌≤◌, vec_len, vec_capacity}
 use Rattle.std.specs.declared.vec.Vec.{Vec}
 use Rattle.std.specs.declared.alloc.Global.{Global}
 use Rattle.model.specs.Logs.{Step}
@@ -8,7 +8,7 @@ use Rattle.effects.specs.declared.events.Event.{Event}
 use Rattle.effects.specs.declared.events.Output.{Output}
 use Rattle.effects.specs.Views.{event_of, output_of, outputs_of}
 use Rattle.std.proofs.lemmas.List.{map-append}
-use Rattle.driver.specs.Memory.{step_of, steps_of}
+use Rattle.driver.specs.Memory.{step_of, steps_of, IsLastFull}
 use Rattle.driver.specs.Worlds.{with_outputs}
 
 abbrev tail_of : List Step → List Step
@@ -50,3 +50,17 @@ steps_more (p ∷ q ∷ log) (suc i) d outs output copied last more same (b ∷ 
 pub on_err_too : {T E A : Type 0} (r : Result T E) → A → OnErr r A
 on_err_too (Ok x) a = tt
 on_err_too (Err e) a = a
+
+-- ---- where an output has no place
+
+pub last_full : (log : List (Event × Vec Output Global)) (i : ℕ) (d : Event × Vec Output Global) → i + 1 ≡ length log
+    → vec_capacity (slice_index_or log i d).1 ≤ vec_len (slice_index_or log i d).1 → IsLastFull log
+last_full [] i d last full = tt
+last_full (p ∷ []) zero d last full = full
+last_full (p ∷ []) (suc i) d last full = absurd (let n : suc i + 1 ≡ 1 = last in omega arith)
+last_full (p ∷ q ∷ log) zero d last full = absurd (let n : 0 + 1 ≡ suc (suc (length log)) = last in omega arith)
+last_full (p ∷ q ∷ log) (suc i) d last full = last_full (q ∷ log) i d (let n : suc i + 1 ≡ suc (suc (length log)) = last in omega arith) full
+
+pub none_last : (log : List (Event × Vec Output Global)) → length log < 1 → IsLastFull log
+none_last [] none = tt
+none_last (p ∷ log) none = absurd (omega arith)

@@ -1,5 +1,5 @@
 -- What a world in memory keeps.
-use Rattle.std.specs.Prelude.{◌≡◌, ◌==◌, ◌-◌, ℕ, Bool, false, if◌then◌else◌, Option, Some, None, Ok, Err, List, [], ◌∷◌, ◌++◌, map, drop}
+use Rattle.std.specs.Prelude.{◌≡◌, ◌==◌, ◌-◌, ◌<◌, ◌≤◌, ◌⊎◌, ℕ, Bool, false, if◌then◌else◌, Option, Some, None, Ok, Err, List, [], ◌∷◌, ◌++◌, map, drop, length, vec_len, vec_capacity, ⊤}
 use Rattle.std.specs.declared.vec.Vec.{Vec}
 use Rattle.std.specs.declared.alloc.Global.{Global}
 use Rattle.model.specs.Logs as logs
@@ -59,3 +59,39 @@ is_due (Some n) = n == 0
 abbrev pub one_fewer : Option ℕ → Option ℕ
 one_fewer None = None
 one_fewer (Some n) = if n == 0 then None else Some (n - 1)
+
+-- ---- where a call needs memory
+
+-- the octets of an event
+abbrev pub octets_in : logs.Event → List ℕ
+octets_in (logs.Event.Client octets) = octets
+octets_in (logs.Event.Up k octets) = octets
+octets_in event = []
+
+-- the octets of the first of some events
+abbrev pub first_octets : List logs.Event → List ℕ
+first_octets [] = []
+first_octets (event ∷ events) = octets_in event
+
+-- A call of `next` needs memory: for what it is handed, for the octets of the event that comes, or since the list of what it was handed, or its log,
+-- has no room for one more.
+abbrev pub NeedsMemory : MemoryWorld → List (ℕ × ℕ) → List ℕ → Type 0
+NeedsMemory world rooms idle =
+    (0 < length rooms) ⊎ (0 < length idle) ⊎ (vec_capacity world.handed ≤ vec_len world.handed)
+    ⊎ (0 < length (first_octets (left_in world))) ⊎ (vec_capacity world.log ≤ vec_len world.log)
+
+-- the octets of an output
+abbrev pub octets_put : logs.Output → List ℕ
+octets_put (logs.Output.ToClient octets) = octets
+octets_put (logs.Output.Does (logs.Act.ToUp k octets)) = octets
+octets_put output = []
+
+-- The outputs of the last step have no room for one more, if there is a step.
+abbrev pub IsLastFull : List (Event × Vec Output Global) → Type 0
+IsLastFull [] = ⊤
+IsLastFull (pair ∷ []) = vec_capacity pair.1 ≤ vec_len pair.1
+IsLastFull (pair ∷ next ∷ log) = IsLastFull (next ∷ log)
+
+-- A call of `apply` needs memory: for the octets of the output, or since those of the last step have no room for it, if there is a step to put it behind.
+abbrev pub NeedsMemoryFor : logs.Output → List (Event × Vec Output Global) → Type 0
+NeedsMemoryFor output log = (0 < length (octets_put output)) ⊎ IsLastFull log

@@ -1,9 +1,11 @@
 //! A world in memory.
 
-ghost use Rattle.std.specs.Prelude.{◌≡◌, ◌+◌, ◌<◌, ◌^◌, ◌∷◌, ◌++◌, [], List, Some, true, false, map, is_ok, IfOk, OnOk, OnErr, if◌then◌else◌};
+ghost use Rattle.std.specs.Prelude.{◌≡◌, ◌+◌, ◌<◌, ◌≤◌, ◌^◌, ◌⊎◌, ◌∷◌, ◌++◌, [], List, Some, true, false, map, length, is_ok, IfOk, OnOk, OnErr, if◌then◌else◌};
+ghost use Rattle.std.specs.Prelude.{vec_len, vec_capacity};
 ghost use Rattle.model.specs.Logs.{Step};
 ghost use Rattle.effects.specs.Views.{event_of, output_of};
 ghost use Rattle.driver.specs.Memory.{steps_of, log_in, handed_in, left_in, Gives, MovesOn, is_due, one_fewer};
+ghost use Rattle.driver.specs.Memory.{octets_in, octets_put, first_octets, IsLastFull, NeedsMemory, NeedsMemoryFor};
 ghost use Rattle.driver.specs.Worlds.{AddsEvent, AddsHanded, KeepsRooms, SaysOver, with_outputs};
 ghost use Rattle.driver.specs.Calls.{HearsIdleFirst};
 ghost use Rattle.driver.specs.Calls.Call.{Asked, Applied};
@@ -77,11 +79,12 @@ impl MemoryWorld {
         ensures handed { OnOk result (AddsHanded (Some (log_in self.old)) (Some (handed_in self.old)) rooms.now idle.now (Some (handed_in self.new))) }
         ensures over { IfOk result (λ next. SaysOver next self.new.over) }
         ensures err { OnErr result ((left_in self.new ≡ left_in self.old) × (log_in self.new ≡ log_in self.old) × (handed_in self.new ≡ handed_in self.old)) }
+        ensures full { OnErr result (NeedsMemory self.old rooms.now idle.now) }
         ensures counts { (self.new.calls ≡ self.old.calls) × (self.new.failures ≡ self.old.failures) × (self.new.fails_in ≡ self.old.fails_in) }
     {
         let steps = self.log.len();
-        let rooms = Vec::from_slice(self.alloc, rooms)?;
-        let idle = Vec::from_slice(self.alloc, idle)?;
+        let rooms = copied(self.alloc, rooms)?;
+        let idle = copied(self.alloc, idle)?;
         self.handed.push((steps, rooms, idle))?;
         let next = self.give();
         if next.is_err() {
@@ -96,6 +99,7 @@ impl MemoryWorld {
         ensures log { IfOk result (λ next. AddsEvent (Some (log_in self.old)) next (Some (log_in self.new))) }
         ensures over { IfOk result (λ next. SaysOver next self.new.over) }
         ensures err { OnErr result ((left_in self.new ≡ left_in self.old) × (log_in self.new ≡ log_in self.old)) }
+        ensures full { OnErr result ((0 < length (first_octets (left_in self.old))) ⊎ (vec_capacity self.old.log ≤ vec_len self.old.log)) }
         ensures counts { (self.new.calls ≡ self.old.calls) × (self.new.failures ≡ self.old.failures) × (self.new.fails_in ≡ self.old.fails_in) }
         ensures handed { self.new.handed ≡ self.old.handed }
     {
@@ -130,15 +134,26 @@ fn is_failure(fails_in: &mut Option<u64>) -> bool
     }
 }
 
+/// Some values once more; of none no memory is taken.
+fn copied<T: Copy>(alloc: Global, items: &[T]) -> Result<Vec<T>, AllocError>
+    ensures items { IfOk result (λ copy. copy.items ≡ items.now) }
+    ensures full { OnErr result (0 < length items.now) }
+{
+    let mut copy = Vec::new(alloc);
+    copy.extend_from_slice(items)?;
+    Ok(copy)
+}
+
 /// An event once more.
 fn copy_event(alloc: Global, event: &Event) -> Result<Event, AllocError>
-    ensures { IfOk result (λ copy. event_of copy ≡ event_of event.now) }
+    ensures is { IfOk result (λ copy. event_of copy ≡ event_of event.now) }
+    ensures full { OnErr result (0 < length (octets_in (event_of event.now))) }
 {
     Ok(match event {
-        Event::Client(piece) => Event::Client(Vec::from_slice(alloc, piece)?),
+        Event::Client(piece) => Event::Client(copied(alloc, piece)?),
         Event::ClientEnd => Event::ClientEnd,
         Event::ClientTook(count) => Event::ClientTook(*count),
-        Event::Up(k, piece) => Event::Up(*k, Vec::from_slice(alloc, piece)?),
+        Event::Up(k, piece) => Event::Up(*k, copied(alloc, piece)?),
         Event::UpEnd(k) => Event::UpEnd(*k),
         Event::UpFailed(k) => Event::UpFailed(*k),
         Event::UpTook(k, count) => Event::UpTook(*k, *count),
@@ -147,17 +162,19 @@ fn copy_event(alloc: Global, event: &Event) -> Result<Event, AllocError>
 
 /// A text once more.
 fn copy_text(alloc: Global, text: &Text) -> Result<Text, AllocError>
-    ensures { IfOk result (λ copy. copy ≡ text.now) }
+    ensures is { IfOk result (λ copy. copy ≡ text.now) }
+    ensures full { OnErr result (0 < length text.now) }
 {
-    Ok(Text::from_octets(Vec::from_slice(alloc, text.as_slice())?))
+    Ok(Text::from_octets(copied(alloc, text.as_slice())?))
 }
 
 /// An output once more.
 fn copy_output(alloc: Global, output: &Output) -> Result<Output, AllocError>
-    ensures { IfOk result (λ copy. output_of copy ≡ output_of output.now) }
+    ensures is { IfOk result (λ copy. output_of copy ≡ output_of output.now) }
+    ensures full { OnErr result (0 < length (octets_put (output_of output.now))) }
 {
     Ok(match output {
-        Output::Client(octets) => Output::Client(Vec::from_slice(alloc, octets)?),
+        Output::Client(octets) => Output::Client(copied(alloc, octets)?),
         Output::Open(k, route) => Output::Open(*k, *route),
         Output::Up(k, octets) => Output::Up(*k, copy_text(alloc, octets)?),
         Output::Close(k) => Output::Close(*k),
@@ -174,6 +191,7 @@ fn add_output(
     ensures log { OnOk result ((before : List Step) (step : Step) → steps_of log.old ≡ before ++ step ∷ []
         → steps_of log.new ≡ before ++ with_outputs step (output_of output.now ∷ []) ∷ []) }
     ensures err { OnErr result (steps_of log.new ≡ steps_of log.old) }
+    ensures full { OnErr result (NeedsMemoryFor (output_of output.now) log.old) }
 {
     let Some(last) = log.len().checked_sub(1) else {
         return Err(WorldFault {});
@@ -227,8 +245,9 @@ impl World for MemoryWorld {
         // The events come in order, and none is lost where a call fails.
         ensures gives { IfOk result (λ next. Gives (left_in self.old) next (left_in self.new)) }
         ensures kept { OnErr result (left_in self.new ≡ left_in self.old) }
-        // The call that is to fail does, and no other than that for want of memory.
+        // The call that is to fail does, and no other than that for want of memory, where it needs some.
         ensures due { OnOk result (is_due self.old.fails_in ≡ false) }
+        ensures full { OnErr result ((is_due self.old.fails_in ≡ true) ⊎ NeedsMemory self.old rooms.now idle.now) }
         ensures fewer { self.new.fails_in ≡ one_fewer self.old.fails_in }
     {
         self.calls += 1;
@@ -259,6 +278,7 @@ impl World for MemoryWorld {
         ensures hears_on { OnOk result (⊥ → ⊥) }
         ensures kept { left_in self.new ≡ left_in self.old }
         ensures due { OnOk result (is_due self.old.fails_in ≡ false) }
+        ensures full { OnErr result ((is_due self.old.fails_in ≡ true) ⊎ NeedsMemoryFor (output_of output.now) self.old.log.items) }
         ensures fewer { self.new.fails_in ≡ one_fewer self.old.fails_in }
     {
         if is_failure(&mut self.fails_in) {

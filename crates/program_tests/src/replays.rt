@@ -1,10 +1,14 @@
 //! Scripts, and their replay.
 
-use gateway::{Event, Output, Text};
-use replay::{ScriptFault, print_steps, read_script, replay};
+ghost use Rattle.std.specs.Prelude.{IfOk};
+ghost use Rattle.gateway.specs.Setups.{setup_of, IsServable};
+
+use gateway::{Config, Event, Output, Route, Text};
+use replay::{ReplayFault, ScriptFault, print_steps, read_script, replay, run_script};
 use std::alloc::{AllocError, Global};
 use std::io::Write;
 use std::process::Abort;
+use std::string::String;
 use std::test::*;
 use std::{io, str};
 
@@ -490,5 +494,40 @@ fn failed_writes(rt: HostRuntime) -> Result<(), Fail> {
     assert_eq!(rt; replay(alloc, None, "Z", &mut other, &mut Full), 2);
     assert_eq!(rt; replay(alloc, Some("a"), "CE", &mut other, &mut Full), 2);
     assert_eq!(rt; other.len(), 0);
+    Ok(())
+}
+
+/// One route, for paths that begin with `/`.
+fn config(alloc: Global) -> Result<Config, AllocError>
+    ensures { IfOk result (λ config. IsServable (setup_of config)) }
+{
+    let route = Route {
+        authority: Vec::new(alloc),
+        prefix: Vec::from_slice(alloc, b"/")?,
+        upstream: String::new(alloc),
+    };
+    Ok(Config::new(vec![in alloc; route]?))
+}
+
+/// Whether the line at this place is refused, and what was put out before it.
+fn refused_behind(
+    alloc: Global,
+    script: &str,
+    wanted: usize,
+) -> Result<(bool, String), AllocError> {
+    let config = config(alloc)?;
+    let mut steps = Vec::new(alloc);
+    let stop = run_script(alloc, &config, script, &mut steps);
+    let is_refused = matches!(stop, Err(ReplayFault::NotAdmitted(place)) if place == wanted);
+    Ok((is_refused, print_steps(alloc, &steps)?))
+}
+
+#[test]
+fn what_was_put_out_before_a_refused_line_is_told(rt: HostRuntime) -> Result<(), Fail> {
+    let alloc = rt.alloc();
+    let script = joined(alloc, &["C ", PREFACE, SETTINGS, "\nCT 31\n"])?;
+    let lines = joined(alloc, &["C ", OWN_SETTINGS, ACK, "\n"])?;
+    let (is_refused, text) = refused_behind(alloc, &script, 2)?;
+    assert_eq!(rt; (is_refused, text.as_str()), (true, lines.as_str()));
     Ok(())
 }

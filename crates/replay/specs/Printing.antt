@@ -2,17 +2,22 @@
 use Rattle.std.specs.Prelude.{◌≡◌, ◌≢◌, ◌⊎◌, ℕ, ◌+◌, false, List, [], ◌∷◌, ◌++◌, map, Option, Some, None, codes, decimal}
 use Rattle.std.specs.List.{flat_map}
 use Rattle.hex.specs.Hex.{encode_lower}
-use Rattle.model.specs.Logs.{Event, Output, Step}
+use Rattle.std.specs.declared.vec.Vec.{Vec}
+use Rattle.std.specs.declared.alloc.Global.{Global}
+use Rattle.model.specs.Logs.{Output, Step}
 use Rattle.model.specs.Logs.Output.{ToClient, Does}
 use Rattle.model.specs.Logs.Act.{Open, ToUp, Close, CloseClient}
 use Rattle.model.specs.Setup.{Setup}
 use Rattle.model.specs.Setup.Policy.{Plain}
 use Rattle.model.specs.Setup.Passing.{Whole}
+use Rattle.effects.specs.declared.events.Event.{Event as Came}
+use Rattle.effects.specs.declared.events.Output.{Output as Given}
+use Rattle.effects.specs.Views.{event_of}
 use Rattle.toml.specs.Parse.{parse_document}
 use Rattle.gateway.specs.declared.config.Config.{Config}
 use Rattle.gateway.specs.Setups.{setup_of}
 use Rattle.gateway.specs.Promises.{Promise}
-use Rattle.gateway.specs.Runs.{IsRefusedAt}
+use Rattle.gateway.specs.Runs.{IsRefusedBehind}
 use Rattle.configuration.specs.declared.faults.ConfigFault.{ConfigFault}
 use Rattle.configuration.specs.declared.faults.ConfigFault.TheVariants.{Memory}
 use Rattle.configuration.specs.Configs.{Configures, ConfiguresNothing}
@@ -75,11 +80,11 @@ message place what = codes "line " ++ decimal place ++ codes ": " ++ what ++ cod
 abbrev pub IsNoScript : List ℕ → (List ℕ → Type 0) → Type 0
 IsNoScript script IsWritten = (place : ℕ) × IsFirstFault (lines_of script) place × IsWritten (message place (codes "not a line"))
 
--- All lines say something, and the first was named whose event may not come after those before it.
+-- All lines say something, and the first was named whose event may not come behind what was put out at those before it.
 abbrev pub IsNotAdmitted : Setup → List ℕ → (List ℕ → Type 0) → Type 0
 IsNotAdmitted setup script IsWritten =
-    (before : ℕ) × (events : List Event) × AllSay (lines_of script) events × IsRefusedAt setup events before
-    × IsWritten (message (before + 1) (codes "not admitted"))
+    (steps : List (Vec Given Global)) × (before : ℕ) × (events : List Came) × AllSay (lines_of script) (map event_of events)
+    × IsRefusedBehind setup events steps before × IsWritten (message (before + 1) (codes "not admitted"))
 
 -- The script was refused for one of the two reasons.
 abbrev pub IsRefusedBy : Setup → List ℕ → (List ℕ → Type 0) → Type 0

@@ -9,5 +9,5 @@ mod scripts;
 
 pub use laws::one_meaning;
 pub use printing::print_steps;
-pub use replays::replay;
+pub use replays::{ReplayFault, replay, run_script};
 pub use scripts::{ScriptFault, read_script};

@@ -6,12 +6,12 @@ ghost use Rattle.std.specs.Io.KnownBytes.{Appends};
 ghost use Rattle.gateway.specs.Setups.{setup_of, IsServable};
 ghost use Rattle.configuration.specs.Lines.{line_of};
 ghost use Rattle.replay.specs.Printing.{IsRun, IsRunBy, IsRefused, IsRefusedBy, IsSetup, IsNoSetup, default_setup, message};
-ghost use Rattle.replay.specs.Stops.{Explains};
+ghost use Rattle.replay.specs.Stops.{Explains, ExplainsBehind, IsRunTo};
 
 use crate::printing::print_steps;
 use crate::scripts::{ScriptFault, read_script};
 use configuration::{ConfigFault, read_config};
-use gateway::{Config, Route, RunFault};
+use gateway::{Config, Output, Route, RunFault};
 use std::alloc::{AllocError, Global};
 use std::io;
 use std::io::Write;
@@ -134,22 +134,40 @@ fn write_text<W: Write>(writer: &mut W, text: &str) -> io::Result<()>
     writer.flush()
 }
 
+/// Runs a script with a configuration, and has in `steps`, in place of what it has, what a gateway
+/// put out at each event that its lines say. Where the event of a line may not come, these are what
+/// was put out at the events before it: so a line is refused only behind just these.
+pub fn run_script(
+    alloc: Global,
+    config: &Config,
+    script: &str,
+    steps: &mut Vec<Vec<Output>>,
+) -> Result<(), ReplayFault>
+    requires { IsServable (setup_of config.now) }
+    ensures ok { OnOk result (IsRunTo (setup_of config.now) script.now steps.new.items) }
+    ensures err { IfErr result (λ stop. ExplainsBehind (setup_of config.now) script.now steps.new.items stop) }
+{
+    steps.clear();
+    let events = match read_script(alloc, script) {
+        Ok(events) => events,
+        Err(ScriptFault::NotALine(place)) => return Err(ReplayFault::NotALine(place)),
+        Err(ScriptFault::Memory) => return Err(ReplayFault::Memory),
+    };
+    match gateway::run_into(alloc, config, &events, steps) {
+        Ok(()) => Ok(()),
+        Err(RunFault::NotAdmitted(place)) => Err(ReplayFault::NotAdmitted(place + 1)),
+        Err(RunFault::Memory(_)) => Err(ReplayFault::Memory),
+    }
+}
+
 /// What the replay of a script prints.
 fn printed(alloc: Global, config: &Config, script: &str) -> Result<String, ReplayFault>
     requires { IsServable (setup_of config.now) }
     ensures ok { IfOk result (λ text. IsRunBy (setup_of config.now) script.now (λ written. string_bytes text ≡ written)) }
     ensures err { IfErr result (λ stop. Explains (setup_of config.now) script.now stop) }
 {
-    let events = match read_script(alloc, script) {
-        Ok(events) => events,
-        Err(ScriptFault::NotALine(place)) => return Err(ReplayFault::NotALine(place)),
-        Err(ScriptFault::Memory) => return Err(ReplayFault::Memory),
-    };
-    let steps = match gateway::run(alloc, config, &events) {
-        Ok(steps) => steps,
-        Err(RunFault::NotAdmitted(place)) => return Err(ReplayFault::NotAdmitted(place + 1)),
-        Err(RunFault::Memory(_)) => return Err(ReplayFault::Memory),
-    };
+    let mut steps = Vec::new(alloc);
+    run_script(alloc, config, script, &mut steps)?;
     match print_steps(alloc, &steps) {
         Ok(text) => Ok(text),
         Err(_) => Err(ReplayFault::Memory),

@@ -2,7 +2,7 @@
 
 ghost use Rattle.gateway.specs.Setups.{setup_of, IsServable};
 
-use gateway::{Config, Event, Output, RunFault, run};
+use gateway::{Config, Event, Output, RunFault, run_into};
 use replay::print_steps;
 use std::alloc::{AllocError, Global};
 
@@ -33,8 +33,9 @@ pub(crate) fn difference(
 ) -> Result<Option<String>, AllocError>
     requires { IsServable (setup_of config.now) }
 {
-    match run(alloc, config, events) {
-        Ok(steps) => difference_among(alloc, &steps, wanted),
+    let mut steps = Vec::new(alloc);
+    match run_into(alloc, config, events, &mut steps) {
+        Ok(()) => difference_among(alloc, &steps, wanted),
         Err(RunFault::NotAdmitted(place)) => {
             let number = place.saturating_add(1);
             Ok(Some(format!(in alloc; "event {number} may not come")?))

@@ -1,4 +1,7 @@
 //! The length of a body against the declared one.
+//!
+//! [`BodyCount`], with [`BodyCount::may_come`] and [`BodyCount::may_end`], is a library type, on no
+//! path of the gateway: bodies are counted by `streams`, by the same definitions.
 
 ghost use Rattle.std.specs.Prelude.{◌≡◌, [], OnOk, IfErr};
 ghost use Rattle.model.specs.Http2.{HasLength};

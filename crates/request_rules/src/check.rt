@@ -1,4 +1,7 @@
 //! The first rule that is broken.
+//!
+//! [`are_trailers`] is a library call, on no path of the gateway: trailers that come are checked by
+//! [`check_trailers`].
 
 ghost use Rattle.std.specs.Prelude.{◌≡◌, true, false, [], MatchBool, MatchOption, take, IfOk, OnOk, IfErr, OnErr};
 ghost use Rattle.model.specs.Http2.{LengthFieldHolds, HasLength, declared_length, is_connect, WellFormedHead, WellFormedTrailers, passed_trailers};

@@ -1,4 +1,7 @@
 //! Turns of the streams that are ready, so that none waits while another is served twice.
+//!
+//! [`Turn::next`] is a library call, on no path of the gateway: `send_queue` keeps turns with the
+//! rest.
 #![tactic(auto)]
 
 ghost use Rattle.std.specs.Prelude.{length};

@@ -1,4 +1,7 @@
 //! The settings that the peer sends (RFC 9113, section 6.5).
+//!
+//! [`Settings::apply`] is a library call, on no path of the gateway: that calls
+//! [`Settings::check`], and then [`Settings::accept`].
 #![tactic(auto)]
 
 ghost use Rattle.std.specs.Prelude.{◌≡◌, ◌≤◌, Some, None, IfOk, IfErr, OnOk, OnErr};

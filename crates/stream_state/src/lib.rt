@@ -1,4 +1,7 @@
 //! Which streams were opened, in which states they are, and what that says of a frame (RFC 9113, section 5.1).
+//!
+//! [`Streams`] is a library type, on no path of the gateway: its streams are kept by `streams`, by
+//! the same states and standings.
 #![tactic(auto)]
 
 ghost use Rattle.std.specs.Prelude.{◌≡◌, ◌≤◌, [], ◌∷◌, ◌++◌, length, OnOk, OnErr};

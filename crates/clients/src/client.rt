@@ -161,9 +161,9 @@ impl<'a> Client<'a> {
         Ok(())
     }
 
-    /// Takes turns of it while it has something left, so many in a row at most. All that is reported
-    /// was heard, or wasn't. The answer is what it has left, and how serving it ended, if that was
-    /// now.
+    /// Takes turns of it while it has something left, so many in a row at most. All that is
+    /// reported was heard, or wasn't. The answer is what it has left, and how serving it ended, if
+    /// that was now.
     pub fn go_on(
         &mut self,
         common: &Common<'a>,

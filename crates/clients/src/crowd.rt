@@ -135,7 +135,8 @@ impl<'a> Crowd<'a> {
             .map_err(|error| stop_of(&error))
     }
 
-    /// How long it may be waited for a report. A client that may wait already isn't reported once more.
+    /// How long it may be waited for a report. A client that may wait already isn't reported once
+    /// more.
     fn patience(&self, setting: &Setting) -> Option<Duration> {
         if !self.queue.is_empty() || self.entrance.may_let_in(self.clients.len()) {
             return Some(Duration::ZERO);
@@ -152,8 +153,8 @@ impl<'a> Crowd<'a> {
         self.leaving > 0 || setting.idle > 0 || self.entrance.is_paused()
     }
 
-    /// Heeds what was reported, and looks again as long as so many sockets were that others may have
-    /// something to report, too. The answer is whether all was heard.
+    /// Heeds what was reported, and looks again as long as so many sockets were that others may
+    /// have something to report, too. The answer is whether all was heard.
     fn hear_all(&mut self, common: &Common<'a>, reactor: &mut Reactor) -> Result<bool, Stop>
         ensures { IfErr result (λ stop. 2 ≤ status_of stop) }
     {
@@ -238,7 +239,8 @@ impl<'a> Crowd<'a> {
         Ok(())
     }
 
-    /// Says why a client can't be served. Where none is let in until time passes, that time begins now.
+    /// Says why a client can't be served. Where none is let in until time passes, that time begins
+    /// now.
     fn refuse(&mut self, common: &Common<'a>, why: Why) {
         say_refused(common.rt, why);
         if self.entrance.is_paused() {
@@ -278,7 +280,8 @@ impl<'a> Crowd<'a> {
         look_after_all(&mut self.clients, now, common.setting.idle, &mut self.queue)
     }
 
-    /// Each client that has something left has turns, and stands behind the others then if it has more.
+    /// Each client that has something left has turns, and stands behind the others then if it has
+    /// more.
     fn take_turns(&mut self, common: &Common<'a>, is_told: bool) -> Result<(), Stop>
         ensures { IfErr result (λ stop. 2 ≤ status_of stop) }
     {
@@ -337,7 +340,8 @@ fn is_due(now: Instant, ticked: Option<Instant>) -> bool {
     }
 }
 
-/// Notes how serving a client ended. Want of memory stops the program only where there is one place for clients.
+/// Notes how serving a client ended. Want of memory stops the program only where there is one place
+/// for clients.
 fn note_end(common: &Common<'_>, client: &Client<'_>, outcome: &Outcome) -> Result<(), Stop>
     ensures { IfErr result (λ stop. 2 ≤ status_of stop) }
 {

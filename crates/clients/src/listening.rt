@@ -13,7 +13,8 @@ use sockets::SocketWorld;
 use std::io::ErrorKind;
 use std::net::{TcpListener, TcpStream};
 
-/// Says where clients connect to, and serves their connections, so many at once as the setting says.
+/// Says where clients connect to, and serves their connections, so many at once as the setting
+/// says.
 pub fn serve_clients(rt: &HostRuntime, setting: &Setting) -> Result<(), Stop>
     requires { IsServable (setup_of setting.now.config) }
     ensures { IfErr result (λ stop. 2 ≤ status_of stop) }

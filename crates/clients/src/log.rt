@@ -118,7 +118,8 @@ fn words_of_end(end: End) -> &'static str {
     }
 }
 
-/// Whether the client is answered by the gateway itself, since nothing of the response was passed on.
+/// Whether the client is answered by the gateway itself, since nothing of the response was passed
+/// on.
 fn is_answered_here(common: &Common<'_>, over: &Over) -> bool {
     match over.end {
         End::Whole | End::GivenUp => false,

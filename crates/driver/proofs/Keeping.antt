@@ -60,7 +60,3 @@ last_full (p ∷ []) zero d last full = full
 last_full (p ∷ []) (suc i) d last full = absurd (let n : suc i + 1 ≡ 1 = last in omega arith)
 last_full (p ∷ q ∷ log) zero d last full = absurd (let n : 0 + 1 ≡ suc (suc (length log)) = last in omega arith)
 last_full (p ∷ q ∷ log) (suc i) d last full = last_full (q ∷ log) i d (let n : suc i + 1 ≡ suc (suc (length log)) = last in omega arith) full
-
-pub none_last : (log : List (Event × Vec Output Global)) → length log < 1 → IsLastFull log
-none_last [] none = tt
-none_last (p ∷ log) none = absurd (omega arith)

@@ -21,7 +21,8 @@ use std::marker::Model;
 pub struct Service {
     alloc: Global,
     gateway: Gateway,
-    /// The open connections to upstreams by rising number, each with how many octets of it may come in one event.
+    /// The open connections to upstreams by rising number, each with how many octets of it may come
+    /// in one event.
     rooms: Vec<(u32, usize)>,
     /// How it ended, once it has.
     outcome: Option<Result<ServiceEnd, ServeFault>>,
@@ -57,7 +58,8 @@ impl Service {
         })
     }
 
-    /// How many streams the client opened so far, whatever became of them (RFC 9113, section 5.1): at most 10,000.
+    /// How many streams the client opened so far, whatever became of them (RFC 9113, section 5.1):
+    /// at most 10,000.
     pub fn opened(&self) -> u32
         ensures { result ≡ opened_in self.now.gateway }
     {
@@ -108,7 +110,8 @@ impl Service {
         ensures hands { self.old.outcome ≡ None → OnErr result ((setup : Setup) (before : List Step) (earlier : Option (List Handed))
             → Goes setup false self.old (W.log world.old) (W.handed world.old) before earlier
             → HandsTo setup before earlier (W.log world.new) (W.handed world.new)) }
-        // Whether the world tells a log or not: what the service stood for by calls along which it moved, it does so still, and a fault is one of these.
+        // Whether the world tells a log or not: what the service stood for by calls along which it
+        // moved, it does so still, and a fault is one of these.
         ensures calls_are { self.old.outcome ≡ None → (setup : Setup) (begun : W)
             → Runs W.moves W.hears_idle_first W.could_read W.heard_at W.looks setup false begun world.old self.old.gateway self.old.rooms
             → TurnLeaves W.moves W.hears_idle_first W.could_read W.heard_at W.looks setup result begun world.new self.new.gateway self.new.rooms }

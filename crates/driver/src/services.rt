@@ -235,14 +235,15 @@ fn closes_client(outputs: &[Output]) -> bool
 /// event is taken, and what is put out for it is applied in order. That nothing comes as yet is a
 /// turn too.
 ///
-/// Of what that adds to a log that the world tells holds what `gateway::run` promises: the headline,
-/// and that nothing is smuggled. `Closed` is answered just where the client was closed, `Turns` only after all turns, and `Over` only where
-/// the world said so; `World` only where a call of the world failed, and then what was added is a
-/// front of such a log, without the output that failed; `NotAdmitted` only where an event came that
-/// may not, with whose it is, and of a world that keeps to rooms never with an upstream, whether it
-/// tells its log or not; `Memory` puts out nothing for the event that came last, and all that was
-/// added before it is such a log. The maxima are at most 1,073,741,824, and there are at most
-/// 4,294,967,295 routes. Upstream connections are kept or not, as the configuration says.
+/// Of what that adds to a log that the world tells holds what `gateway::run` promises: the
+/// headline, and that nothing is smuggled. `Closed` is answered just where the client was closed,
+/// `Turns` only after all turns, and `Over` only where the world said so; `World` only where a call
+/// of the world failed, and then what was added is a front of such a log, without the output that
+/// failed; `NotAdmitted` only where an event came that may not, with whose it is, and of a world
+/// that keeps to rooms never with an upstream, whether it tells its log or not; `Memory` puts out
+/// nothing for the event that came last, and all that was added before it is such a log. The maxima
+/// are at most 1,073,741,824, and there are at most 4,294,967,295 routes. Upstream connections are
+/// kept or not, as the configuration says.
 pub fn serve<W: World>(
     alloc: Global,
     config: &Config,
@@ -263,11 +264,13 @@ pub fn serve<W: World>(
         × AddsUnanswered (setup_of config.now) (W.log world.old) (W.log world.new) }
     ensures failures { OnOk result (W.failures world.new ≡ W.failures world.old) }
     ensures calls { OnOk result (W.calls world.new ≤ W.calls world.old + turns) }
-    // `next` isn't called once the client is closed, and what it was handed is right, whatever the answer is.
+    // `next` isn't called once the client is closed, and what it was handed is right, whatever the
+    // answer is.
     ensures hands { Hands (setup_of config.now) (W.log world.old) (W.handed world.old) (W.log world.new) (W.handed world.new) }
     ensures turns { IsOkAnd result (λ ended. ended ≡ ServiceEnd.Turns) → W.calls world.new ≡ W.calls world.old + turns }
     ensures over { IsOkAnd result (λ ended. ended ≡ ServiceEnd.Over) → W.over world.new ≡ true }
-    // Whether the world tells a log or not: there are calls along which it moved, and of the log that these tell the same holds.
+    // Whether the world tells a log or not: there are calls along which it moved, and of the log
+    // that these tell the same holds.
     ensures calls_are { WasServed W.moves W.hears_idle_first W.could_read W.heard_at W.looks (setup_of config.now) result world.old world.new }
 {
     let Ok(mut service) = Service::new(alloc, config) else {

@@ -57,10 +57,12 @@ pub trait World {
     /// Whether it said that nothing comes any more.
     ghost over: { Self → Bool };
 
-    /// The events that came and what was put out for each, the oldest first, where a world stores them.
+    /// The events that came and what was put out for each, the oldest first, where a world stores
+    /// them.
     ghost log: { Self → Option (List Step) };
 
-    /// What each call of `next` was handed that didn't fail, the first one first, where a world stores it.
+    /// What each call of `next` was handed that didn't fail, the first one first, where a world
+    /// stores it.
     ghost handed: { Self → Option (List Handed) };
 
     /// Whether what it gives of upstreams is of connections that have room for it, always.
@@ -75,7 +77,8 @@ pub trait World {
     /// Whether something could be read of a connection, by its own marks.
     ghost could_read: { Self → ℕ → Bool };
 
-    /// How often it looked at all its sockets, and how often it had when octets of the client came last.
+    /// How often it looked at all its sockets, and how often it had when octets of the client came
+    /// last.
     ghost looks: { Self → ℕ };
 
     ghost heard_at: { Self → ℕ };

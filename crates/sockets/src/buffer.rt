@@ -17,7 +17,8 @@ use std::io;
 /// The most octets that come in one event.
 const PIECE: usize = 65536;
 
-/// Room for as many octets as come in one event at most, from the first read on; kept from read to read.
+/// Room for as many octets as come in one event at most, from the first read on; kept from read to
+/// read.
 #[derive(Drop)]
 pub struct Buffer {
     octets: Vec<u8>,
@@ -87,7 +88,8 @@ impl Buffer {
     }
 }
 
-/// Reads what is there of an upstream into the front of these octets, as far as there is room, if it is ready.
+/// Reads what is there of an upstream into the front of these octets, as far as there is room, if
+/// it is ready.
 fn read_front<S: Wire>(
     alloc: Global,
     upstream: &mut Upstream<S>,

@@ -34,7 +34,8 @@ use std::io::ErrorKind;
 use std::net::{Net, SocketAddr};
 use std::time::{Clock, Duration, Instant};
 
-/// From so many octets for the client on that wait they are written at once, and else before the world waits.
+/// From so many octets for the client on that wait they are written at once, and else before the
+/// world waits.
 const WRITTEN_AT_ONCE: usize = 32768;
 
 /// From so many octets on that the client took it is told at once, and else before the world waits.
@@ -59,14 +60,16 @@ pub(crate) struct Sockets<'a, N: Net + Clock, S> {
     is_client_queued: bool,
     /// By rising number.
     pub(crate) upstreams: Vec<Upstream<S>>,
-    /// The numbers of the sockets of which something may be read, the next one at the front. Some may be closed.
+    /// The numbers of the sockets of which something may be read, the next one at the front. Some
+    /// may be closed.
     pub(crate) ready: VecDeque<u32>,
     /// The numbers of the upstreams that may have taken octets of which wasn't told, likewise.
     writes: VecDeque<u32>,
     pub(crate) buffer: Buffer,
     /// How many turns there were, from 0 on again behind the last number.
     turns: u32,
-    /// A number that a look at all sockets changes, if octets of the client came since the last one.
+    /// A number that a look at all sockets changes, if octets of the client came since the last
+    /// one.
     looks: u64,
     /// What that number was when octets of the client came last.
     heard_at: u64,
@@ -461,7 +464,8 @@ impl<'a, N: Net + Clock, S: Wire> Sockets<'a, N, S> {
         Ok(())
     }
 
-    /// The client is read behind the others of which something may be read by now, wherever it stood among them.
+    /// The client is read behind the others of which something may be read by now, wherever it
+    /// stood among them.
     pub(crate) fn put_client_last(&mut self)
         ensures upstreams { self.new.upstreams ≡ self.old.upstreams }
         ensures client { self.new.client ≡ self.old.client }
@@ -505,7 +509,8 @@ impl<'a, N: Net + Clock, S: Wire> Sockets<'a, N, S> {
         )
     }
 
-    /// Notes what was reported of the client's socket, and writes what waits for it, if it takes octets again.
+    /// Notes what was reported of the client's socket, and writes what waits for it, if it takes
+    /// octets again.
     fn hear_of_client(&mut self, report: &Report) -> Result<(), WorldFault>
         ensures upstreams { self.new.upstreams ≡ self.old.upstreams }
         ensures noted { KeepsHeard (Some (noted report.now self.old.client)) (Some self.new.client) }
@@ -573,9 +578,9 @@ impl<'a, N: Net + Clock, S: Wire> Sockets<'a, N, S> {
         Ok(())
     }
 
-    /// Opens a connection to its route's address. One that can't be made fails at a later `next`. An
-    /// `Err` says that memory was refused, or that the number is the client's or that of a connection
-    /// that is open.
+    /// Opens a connection to its route's address. One that can't be made fails at a later `next`.
+    /// An `Err` says that memory was refused, or that the number is the client's or that of a
+    /// connection that is open.
     fn open(&mut self, k: u32, route: u32) -> Result<(), WorldFault>
         ensures client { self.new.client ≡ self.old.client }
         ensures opens { OnOk result (Opens (IsNew (number_of_client self.old.reporting) k

@@ -45,8 +45,9 @@ impl<S: Wire> Departure<S> {
     /// Goes on without waiting: writes what its socket takes of what waits for it, tells it that
     /// nothing more is written once nothing waits, and reads and drops what is there, in one read.
     /// The answer is how long it is waited for yet, where nothing is reported of it, or not at all
-    /// where more may be read; or nothing where it is left: its end was read behind all, or it was waited for long enough by now. An
-    /// error is the socket's, or says that memory was refused: then it is left too.
+    /// where more may be read; or nothing where it is left: its end was read behind all, or it was
+    /// waited for long enough by now. An error is the socket's, or says that memory was refused:
+    /// then it is left too.
     pub fn go_on(
         &mut self,
         alloc: Global,
@@ -69,7 +70,8 @@ impl<S: Wire> Departure<S> {
     }
 }
 
-/// Goes on leaving a client without waiting, as `Departure::go_on` does, and `SocketWorld::finish` between its waits.
+/// Goes on leaving a client without waiting, as `Departure::go_on` does, and `SocketWorld::finish`
+/// between its waits.
 pub fn leave_on<S: Wire>(
     alloc: Global,
     now: Instant,

@@ -98,7 +98,8 @@ pub(crate) fn heed_all<S: Wire>(
     Ok(())
 }
 
-/// Notes what was reported of an upstream, if it is open, and writes what waits for it, if it takes octets again.
+/// Notes what was reported of an upstream, if it is open, and writes what waits for it, if it takes
+/// octets again.
 pub(crate) fn heed<S: Wire>(
     report: &Report,
     registry: &Registry,
@@ -136,7 +137,8 @@ pub(crate) fn list<S: Wire>(
     join_writes(upstream, writes)
 }
 
-/// An upstream joins those of which something may be read, if something may, and it doesn't stand among them.
+/// An upstream joins those of which something may be read, if something may, and it doesn't stand
+/// among them.
 pub(crate) fn join_ready<S: Wire>(
     upstream: &mut Upstream<S>,
     ready: &mut VecDeque<u32>,
@@ -153,7 +155,8 @@ pub(crate) fn join_ready<S: Wire>(
     Ok(())
 }
 
-/// An upstream joins those of which it may have to be told what they took, if it may, and it doesn't stand among them.
+/// An upstream joins those of which it may have to be told what they took, if it may, and it
+/// doesn't stand among them.
 fn join_writes<S: Wire>(
     upstream: &mut Upstream<S>,
     writes: &mut VecDeque<u32>,

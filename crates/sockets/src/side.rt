@@ -75,7 +75,8 @@ impl<S: Wire> Side<S> {
         self.out.owes_more_than(most)
     }
 
-    /// How many octets the socket took that weren't told of, if at least so many. They are told of now.
+    /// How many octets the socket took that weren't told of, if at least so many. They are told of
+    /// now.
     pub fn tell(&mut self, least: u64) -> u64
         ensures count { result ≡ told_count least self.old.out }
         ensures told { self.new ≡ record self.old { out = told least self.old.out } }
@@ -112,7 +113,8 @@ impl<S: Wire> Side<S> {
         self.out.waiting()
     }
 
-    /// A write failed: what is written to it reaches nobody, and reads go on until its end, or to a failure.
+    /// A write failed: what is written to it reaches nobody, and reads go on until its end, or to a
+    /// failure.
     pub fn lose(&mut self)
         ensures { self.new ≡ given_up self.old }
     {

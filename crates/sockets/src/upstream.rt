@@ -55,7 +55,8 @@ impl<S: Wire> Upstream<S> {
         }
     }
 
-    /// Whether it joins those of which something may be read: something may, and it doesn't stand among them.
+    /// Whether it joins those of which something may be read: something may, and it doesn't stand
+    /// among them.
     pub fn joins_queue(&mut self) -> bool
         ensures joins { result ≡ (not self.old.is_queued && may_be_ready self.old.side) }
         ensures stands { self.new ≡ record self.old { is_queued = self.old.is_queued || result } }
@@ -124,7 +125,8 @@ impl<S: Wire> Upstream<S> {
         self.flush(registry);
     }
 
-    /// How many octets its socket took that weren't told of. They are told of now, and it isn't listed any more.
+    /// How many octets its socket took that weren't told of. They are told of now, and it isn't
+    /// listed any more.
     pub fn tell(&mut self) -> u64
         ensures count { result ≡ count_told self.old.side }
         ensures told { self.new ≡ record self.old { is_listed = false; side = side_told self.old.side } }
@@ -245,7 +247,8 @@ impl<S: Wire> Upstream<S> {
     }
 }
 
-/// What a read of a connection gave, as an event, by whether a write failed and whether it was reported as over.
+/// What a read of a connection gave, as an event, by whether a write failed and whether it was
+/// reported as over.
 fn event_of(
     k: u32,
     is_broken: bool,

@@ -28,7 +28,8 @@ pub trait Wire: Socket + Drop {
         ensures left { Self.left self.new ≡ Self.left self.old }
         ensures held { Self.held self.new ≡ Self.held self.old };
 
-    /// Ends what its peer sends: what came before is still read, and then its end, which is reported.
+    /// Ends what its peer sends: what came before is still read, and then its end, which is
+    /// reported.
     fn end(&mut self) -> io::Result<()>
         ensures left { Self.left self.new ≡ Self.left self.old }
         ensures held { Self.held self.new ≡ Self.held self.old };

@@ -127,7 +127,8 @@ impl<'a, N: Net + Clock, S: Wire> SocketWorld<'a, N, S> {
         self.sockets.is_behind()
     }
 
-    /// It was told of all reports: the client is read behind those connections of which something may be read by now.
+    /// It was told of all reports: the client is read behind those connections of which something
+    /// may be read by now.
     pub fn catch_up(&mut self)
         ensures calls { self.new.calls ≡ self.old.calls }
         ensures failures { self.new.failures ≡ self.old.failures }
@@ -142,7 +143,8 @@ impl<'a, N: Net + Clock, S: Wire> SocketWorld<'a, N, S> {
         self.sockets.put_client_last();
     }
 
-    /// Whether something came of the client, or its socket took something that was told of, since this was last asked.
+    /// Whether something came of the client, or its socket took something that was told of, since
+    /// this was last asked.
     pub fn take_moved(&mut self) -> bool
         ensures moved { result ≡ self.old.has_moved }
         ensures stays { self.new ≡ record self.old { has_moved = false } }
@@ -152,7 +154,8 @@ impl<'a, N: Net + Clock, S: Wire> SocketWorld<'a, N, S> {
         has_moved
     }
 
-    /// Lends it another buffer, and has its own back. What lies in one is of no meaning between calls.
+    /// Lends it another buffer, and has its own back. What lies in one is of no meaning between
+    /// calls.
     pub fn swap_buffer(&mut self, buffer: &mut Buffer)
         ensures stays { self.new ≡ record self.old { sockets = record self.old.sockets { buffer = buffer.old } } }
         ensures had { buffer.new ≡ self.old.sockets.buffer }

@@ -7,8 +7,8 @@ use Rattle.model.specs.Octets.{IsFront}
 use Rattle.model.specs.Messages.{Field, Request, Item}
 use Rattle.model.specs.Messages.Item.{Block}
 use Rattle.model.specs.Http1.{H1Request}
-use Rattle.model.specs.Http1Text.{framing_of, head_text, chunk_text, last_chunk, content_of}
-use Rattle.model.specs.Http2.{HasLength, declared_length, passed_trailers, first_block, request_of}
+use Rattle.model.specs.Http1Text.{chunk_text, last_chunk, content_of}
+use Rattle.model.specs.Http2.{HasLength, declared_length, passed_trailers, first_block}
 use Rattle.model.specs.Spelling.{IsSpelling, IsSpelled}
 use Rattle.request_rules.specs.Heads.{parts_of}
 use Rattle.h1_writer.specs.Sending.{Stage, Sending, SentWhole, SentCounting, SentHolding, SentChunking, head_of, piece_of}

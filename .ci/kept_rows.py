@@ -4,6 +4,8 @@
 
     .ci/kept_rows.py [FOLDER]   writes `kept_older.rows` and the configurations `keep_*.toml` into
                                 the folder, by default that of the rows
+    .ci/kept_rows.py --check    says which of them aren't as it would write them, and exits 1 if
+                                there is one; `.ci/run` does so
 
 What becomes of a row is worked out here from its old text and from these rules alone, and not from
 what a gateway prints:
@@ -21,9 +23,11 @@ of connections nothing that those of others don't. Each row that is made is to b
 old one before it is committed.
 """
 import copy
+import filecmp
 import os
 import re
 import sys
+import tempfile
 
 sys.dont_write_bytecode = True
 HERE = os.path.dirname(os.path.abspath(__file__))
@@ -291,8 +295,8 @@ def paragraphs():
                     yield lines
 
 
-def main():
-    folder = sys.argv[1] if len(sys.argv) > 1 else rows.DATA
+def write(folder):
+    """Writes the rows and the configurations into the folder."""
     courses = {}
     made = ["# The older rows where upstream connections are kept. `.ci/kept_rows.py` makes this file."]
     made += ["\n".join(row_of(lines, courses)) for lines in paragraphs()]
@@ -303,6 +307,24 @@ def main():
             comment, _, rest = text.read().partition("\n")
         with open(os.path.join(folder, f"keep_{name}.toml"), "w") as file:
             file.write(f"{comment[:-1]}; upstream connections are kept.\nkeep = true\n{rest}")
+
+
+def check():
+    """Says which files don't stand as they would be written. Returns how many."""
+    with tempfile.TemporaryDirectory() as folder:
+        write(folder)
+        made = sorted(os.listdir(folder))
+        others = filecmp.cmpfiles(folder, rows.DATA, made, shallow=False)
+    for name in others[1] + others[2]:
+        print(f"{name} isn't as .ci/kept_rows.py makes it")
+    print(f"{len(others[0])} of {len(made)} files are as .ci/kept_rows.py makes them")
+    return len(made) - len(others[0])
+
+
+def main():
+    if sys.argv[1:] == ["--check"]:
+        sys.exit(check() > 0)
+    write(sys.argv[1] if len(sys.argv) > 1 else rows.DATA)
 
 
 if __name__ == "__main__":

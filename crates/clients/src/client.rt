@@ -33,8 +33,8 @@ pub struct Client<'a> {
     pub address: SocketAddr,
     /// It stands among those that have something left.
     pub is_queued: bool,
-    /// As long as it is served.
-    serving: Option<Serving<'a>>,
+    /// As long as it is served: a gateway is large, and a list of clients moves them.
+    serving: Option<Box<Serving<'a>>>,
     /// Once it is left.
     departure: Option<Departure<Socket>>,
     /// When it came.
@@ -131,11 +131,12 @@ impl<'a> Client<'a> {
             socket,
         )?;
         let sockets = Watched::new(common.rt, world, exchanges_for(alloc, common.setting));
+        let serving = Serving::begin(service, sockets, common.setting.turns);
         Ok(Client {
             number,
             address,
             is_queued: false,
-            serving: Some(Serving::begin(service, sockets, common.setting.turns)),
+            serving: Some(Box::new(alloc, serving)?),
             departure: None,
             came: now,
             opened: 0,
@@ -192,7 +193,7 @@ impl<'a> Client<'a> {
             return;
         };
         self.opened = serving.service.opened();
-        let Serving { mut sockets, .. } = serving;
+        let Serving { mut sockets, .. } = Box::into_inner(serving);
         sockets.abandon();
         say_exchanges(common, self.number, self.address, &mut sockets);
         if let Ok(now) = Instant::now(common.rt) {

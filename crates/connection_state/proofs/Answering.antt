@@ -107,7 +107,7 @@ other_ignored frame other =
 
 -- a setup, where none matters
 pub any_setup : Setup
-any_setup = record { routes = []; policy = Policy.Plain; passing = Passing.Whole; max_body = 0; max_response = 0; keep = false; most_idle = 8 }
+any_setup = record { routes = []; policy = Policy.Plain; passing = Passing.Whole; max_body = 0; max_response = 0; keep = false; most_idle = 8; more_room = 0 }
 
 -- what is said of a record that is seen from inside, and of a frame by its parts
 pub moved : (P : Inbound → Frame → Type 0) (i j : Inbound) (f g : Frame) → i ≡ j → g ≡ f → P i f → P j g

@@ -14,7 +14,7 @@ use Rattle.model.specs.Lifetimes.{state_by_ends}
 use Rattle.model.specs.WindowsOnTape.{increment, is_past}
 use Rattle.model.specs.ErrorTable.{fault_of, unless_of_stream, is_idle}
 use Rattle.theory_errors.specs.Summary.{Summary, Stream as Kept}
-use Rattle.theory_errors.specs.Judging.{frame_rows_in, is_over_in, no_goaway_in}
+use Rattle.theory_errors.specs.Judging.{frame_rows_in, is_over_in, no_goaway_in, room_in}
 use Rattle.theory_errors.specs.Owing.{fault_in}
 use Rattle.theory_errors.specs.Rows.{Row, find}
 use Rattle.theory_errors.specs.Book.{Book, summary_in}
@@ -125,7 +125,7 @@ module _ (b : Book) (flags id : ℕ) (payload : List ℕ) (of_stream : (id == 0)
   past = int_lt b.room (pos (length payload))
 
   abbrev past_own : Bool
-  past_own = int_lt kept.room (pos (length payload))
+  past_own = int_lt (room_in b.own kept) (pos (length payload))
 
   -- the rows that matter
   abbrev rows_from : Bool → Bool → Option Fault → Bool → List (Option Fault)

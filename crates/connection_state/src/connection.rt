@@ -1,6 +1,6 @@
 //! What is kept of a connection for its client's frames.
 
-ghost use Rattle.std.specs.Prelude.{◌≡◌, ◌≤◌, ◌==◌, ◌&&◌, [], ◌∷◌, length, false, true, None, Some, IfOk, IfErr};
+ghost use Rattle.std.specs.Prelude.{◌≡◌, ◌<◌, ◌≤◌, ◌==◌, ◌&&◌, [], ◌∷◌, length, false, true, None, Some, IfOk, IfErr};
 ghost use Rattle.std.specs.Prelude.{IfSome, IfNone, OnOk, OnErr, option_map, pos, ◌+ℤ◌, ◌-ℤ◌, int_lt};
 ghost use Rattle.model.specs.Setup.{Setup};
 ghost use Rattle.model.specs.Tables.{first_table};
@@ -9,7 +9,7 @@ ghost use Rattle.model.specs.Errors.Fault.{Connection as Fatal, Stream as Stream
 ghost use Rattle.model.specs.FrameErrors.{fault_if};
 ghost use Rattle.model.specs.Windows.{IsSize};
 ghost use Rattle.model.specs.WindowsOnTape.{is_past};
-ghost use Rattle.theory_errors.specs.Judging.{window_in};
+ghost use Rattle.theory_errors.specs.Judging.{window_in, room_in};
 ghost use Rattle.theory_errors.specs.Rows.{find, slot_of};
 ghost use Rattle.theory_errors.specs.Rows.Slot.{Live as Active};
 ghost use Rattle.stream_state.specs.Views.{kind_in, verdict_in};
@@ -58,6 +58,7 @@ pub struct Connection {
     pub(crate) continuations: u32,
     pub(crate) settings: Settings,
     pub(crate) window: Window,
+    pub(crate) own: u32,
     pub(crate) room: Window,
     pub(crate) streams: StreamTable,
     pub(crate) resets: u32,
@@ -76,6 +77,7 @@ impl Model for Connection {
       block = c.joiner.begun;
       continuations = c.continuations;
       first_size = c.settings;
+      own = c.own;
       window = c.window;
       room = c.room;
       rows = c.streams;
@@ -84,13 +86,15 @@ impl Model for Connection {
       table = c.decoder.table;
     } };
 
-    ghost invariant = { λ c. IsWhole c.streams c.joiner c.continuations c.decoder.fault };
+    ghost invariant = { λ c. IsWhole c.own c.streams c.joiner c.continuations c.decoder.fault };
 }
 
 impl Connection {
-    /// A connection on which nothing came.
-    pub fn new(alloc: Global) -> Self
-        ensures book { (setup : Setup) → book_of (record { given = []; untaken = 0 }) result ≡ (first_ledger setup).book }
+    /// A connection on which nothing came, where the windows in which the gateway receives have so
+    /// many octets more than 65,535 (RFC 9113, section 6.9.2).
+    pub fn new(alloc: Global, more_room: u32) -> Self
+        requires { more_room < 2147418113 }
+        ensures book { (setup : Setup) → setup.more_room ≡ more_room → book_of (record { given = []; untaken = 0 }) result ≡ (first_ledger setup).book }
         ensures table { result.table ≡ first_table }
     {
         Connection {
@@ -99,6 +103,7 @@ impl Connection {
             continuations: 0,
             settings: Settings::default(),
             window: Window::new(FIRST_WINDOW),
+            own: FIRST_WINDOW + more_room,
             room: Window::new(FIRST_WINDOW),
             streams: StreamTable::new(alloc),
             resets: 0,
@@ -401,7 +406,7 @@ impl Connection {
         requires none_begun { self.old.block ≡ None }
         requires short { length view.payload.now ≤ 16384 }
         requires admitted { IsAdmitted self.old (frame_of view) }
-        requires fits { int_lt (find self.old.rows view.id).room (pos (length view.payload.now)) ≡ false }
+        requires fits { int_lt (room_in self.old.own (find self.old.rows view.id)) (pos (length view.payload.now)) ≡ false }
         ensures { self.new ≡ record self.old {
           has_come = true;
           continuations = 0;
@@ -436,7 +441,7 @@ impl Connection {
             unreachable!();
         };
         let (count, ends) = (octets.len() as u32, ends_stream(view));
-        let code = body_code(live, view.payload.len() as u32, count, ends);
+        let code = body_code(live, self.own, view.payload.len() as u32, count, ends);
         let before = live.course();
         let next = before.with_content(count, ends, max_body, live.head_out());
         if let Some(code) = code {

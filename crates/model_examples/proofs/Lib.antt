@@ -15,6 +15,7 @@ mod OfferRefusals
 mod Refusals
 mod RequestRefusals
 mod ResponseRefusals
+mod RoomExamples
 mod RowBlocks
 mod RowTapes
 mod SendingRefusals

@@ -29,7 +29,7 @@ use Rattle.model_examples.proofs.WindowExamples as windows
 pub silent : (known : Known) (t : List Entry) → sent t ≡ [] → ErrorsHold known t → ⊥
 silent known t e c = ends c.begins.0 (sym (ap (map (λ noted. noted.frame)) e) ∙ c.begins.1)
   where
-    ends : (newer : List Frame) → [] ≡ newer ++ settings_frame ∷ [] → ⊥
+    ends : (newer : List Frame) → [] ≡ newer ++ settings_frame known.setup.more_room ∷ [] → ⊥
     ends [] e = cc
     ends (f ∷ newer) e = cc
 
@@ -39,7 +39,7 @@ unfolding total_size
 leaves_at_once c = let clash : 3 ≡ 2 = ap length c.just_owed in omega (arith, clash)
 
 -- It doesn't acknowledge settings.
-pub not_acknowledged : ErrorsHold by_whole (plain (settings []) ∷ out settings_frame ∷ []) → ⊥
+pub not_acknowledged : ErrorsHold by_whole (plain (settings []) ∷ out (settings_frame 0) ∷ []) → ⊥
 unfolding total_size
 not_acknowledged c = let clash : 1 ≡ 2 = ap length c.just_owed in omega (arith, clash)
 

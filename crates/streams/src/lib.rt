@@ -63,7 +63,7 @@ impl Model for StreamTable {
 impl StreamTable {
     ghost use Rattle.streams.specs.Asked.{standing, verdict, AllowsOpening, MayOpen, active_in, is_active, shifts_past, changed, IsLive};
     ghost use Rattle.streams.specs.Steps.{granted, taken};
-    ghost use Rattle.streams.specs.Sending.{head_sent, data_sent, given_back, failed, stepped, AreSendable, AreReturnable, HasRoom, is_served};
+    ghost use Rattle.streams.specs.Sending.{AreTakable, head_sent, data_sent, given_back, failed, stepped, AreSendable, AreReturnable, HasRoom, is_served};
 
     /// A connection on which no stream was opened.
     pub fn new(alloc: Global) -> Self
@@ -112,7 +112,7 @@ impl StreamTable {
     /// both sides have ended it then, it is over (RFC 9113, section 5.1).
     pub fn take(&mut self, id: u32, octets: u32, course: Course, ended: bool)
         requires live { is_active self.old id ≡ true }
-        requires fits { (octets == 0) ≡ false → pos octets ≤ℤ (kept_of self.old id).room }
+        requires fits { (octets == 0) ≡ false → AreTakable octets (kept_of self.old id) }
         ensures is { self.new ≡ changed id (slot_of (taken octets (outline_of course) ended (kept_of self.old id))) self.old }
         ensures kept { AreKept self.new }
     {
@@ -129,7 +129,7 @@ impl StreamTable {
     /// The same, where it is active behind them.
     fn put(&mut self, id: u32, octets: u32, course: Course, ended: bool)
         requires live { is_active self.old id ≡ true }
-        requires fits { (octets == 0) ≡ false → pos octets ≤ℤ (kept_of self.old id).room }
+        requires fits { (octets == 0) ≡ false → AreTakable octets (kept_of self.old id) }
         requires goes_on { is_over_in (taken octets (outline_of course) ended (kept_of self.old id)) ≡ false }
         ensures is { self.new ≡ changed id (Active (taken octets (outline_of course) ended (kept_of self.old id))) self.old }
         ensures kept { AreKept self.new }

@@ -79,11 +79,11 @@ offers_may setup (Does d ∷ run) all = (
 )
 offers_may setup (Settles ∷ run) all = offers_may setup run all
 
-pub windows_may : (setup : Setup) (run : List Move) → AllAllowed setup run → windows.AllMayCome setup.passing (windows_of setup run)
+pub windows_may : (setup : Setup) (run : List Move) → AllAllowed setup run → windows.AllMayCome setup.more_room setup.passing (windows_of setup run)
 windows_may setup [] all = tt
 windows_may setup (Does d ∷ run) all = (
   windows_may setup run all.0,
-  subst (λ (g : Gates). windows.MayCome setup.passing g (windows.sight_of (windows_of setup run)) (sight_in (summary_at setup (Does d ∷ run))) (windows.state_with g (windows.kept_behind setup.passing (windows_of setup run))) (window_of (sight_in (summary_at setup run)) (sight_in (summary_at setup (Does d ∷ run))) d)) (sym (windows_gates setup run))
+  subst (λ (g : Gates). windows.MayCome setup.passing g (windows.sight_of (windows_of setup run)) (sight_in (summary_at setup (Does d ∷ run))) (windows.state_with g (windows.kept_behind setup.more_room setup.passing (windows_of setup run))) (window_of (sight_in (summary_at setup run)) (sight_in (summary_at setup (Does d ∷ run))) d)) (sym (windows_gates setup run))
       (subst (λ (s : Sight). windows.MayCome setup.passing (gates_in (summary_at setup run) (theory_requests.state_of setup (turns_of setup run))) s (sight_in (summary_at setup (Does d ∷ run))) (rooms_in (summary_at setup run) (state_of setup run)) (window_of (sight_in (summary_at setup run)) (sight_in (summary_at setup (Does d ∷ run))) d)) (sym (windows_sight setup run)) all.1.window),
 )
 windows_may setup (Settles ∷ run) all = (windows_may setup run all, tt)

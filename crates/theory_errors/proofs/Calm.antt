@@ -24,7 +24,7 @@ use Rattle.model.specs.ErrorClause.{is_fatal}
 use Rattle.model.proofs.OpenedLaws.{not_opened}
 use Rattle.model.proofs.OwedSteps.{neither}
 use Rattle.theory_errors.specs.Summary.{Outline, Stream as Kept, Summary}
-use Rattle.theory_errors.specs.Judging.{active_in, is_active_in, standing_in, window_in, completed_in, state_in, fault_on_in, fault_by_standing_in, stream_update_in, stream_data_in, malformed_in, are_last, is_crowded_in, no_goaway_in, rows_before_block_in, rows_behind_block_in, fault_for}
+use Rattle.theory_errors.specs.Judging.{active_in, is_active_in, standing_in, window_in, completed_in, state_in, fault_on_in, fault_by_standing_in, stream_update_in, stream_data_in, malformed_in, are_last, is_crowded_in, no_goaway_in, rows_before_block_in, rows_behind_block_in, fault_for, room_in}
 use Rattle.theory_errors.specs.Owing.{fault_in}
 use Rattle.theory_errors.specs.Book.{is_told}
 use Rattle.theory_errors.proofs.Standings.{states}
@@ -270,7 +270,7 @@ module _ (s : Summary) (noted : Noted) (outline : Outline) (may : may_open s.ope
       ap (λ g. first_of (fault_if (active && (g && increment noted.frame == 0)) (Stream protocol_error) ∷ fault_if (active && (g && is_past (window_in s.first_size (s.stream noted.frame.id) +ℤ pos (increment noted.frame)))) (Stream flow_control_error) ∷ [])) last.1
       ∙ ap (λ b. first_of (fault_if b (Stream protocol_error) ∷ fault_if b (Stream flow_control_error) ∷ [])) (and_right active false refl) in
       let data_none : stream_data_in s noted.frame ≡ None =
-      ap (λ d. fault_if (active && (d && int_lt (s.stream noted.frame.id).room (pos (length noted.frame.payload)))) (Stream flow_control_error)) both.0
+      ap (λ d. fault_if (active && (d && int_lt (room_in s.own (s.stream noted.frame.id)) (pos (length noted.frame.payload)))) (Stream flow_control_error)) both.0
       ∙ ap (λ b. fault_if b (Stream flow_control_error)) (and_right active false refl) in
       let last_none : no_goaway_in s noted ≡ None =
       ap (λ b. fault_if (are_last s (if b then noted.frame.id ∷ s.opened else s.opened) && is_crowded_in s) (Stream enhance_your_calm)) closed

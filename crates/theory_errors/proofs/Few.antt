@@ -20,7 +20,7 @@ use Rattle.model.specs.ErrorTable.{fault_of, judged, unless_of_stream, grants_no
 use Rattle.model.specs.ErrorClause.{rst_stream, is_calming}
 use Rattle.model.proofs.OpenedLaws.{not_opened}
 use Rattle.theory_errors.specs.Summary.{Outline, Stream as Kept, Summary}
-use Rattle.theory_errors.specs.Judging.{window_in, fault_on_in, is_over_in, active_in, is_active_in, completed_in, fault_by_standing_in, stream_update_in, stream_data_in, no_goaway_in, malformed_in}
+use Rattle.theory_errors.specs.Judging.{window_in, fault_on_in, is_over_in, active_in, is_active_in, completed_in, fault_by_standing_in, stream_update_in, stream_data_in, no_goaway_in, malformed_in, room_in}
 use Rattle.theory_errors.specs.Owing.{highest_in, fault_in, last_goaway_in, owed_first_in, owes_in}
 use Rattle.theory_errors.specs.After.{kept_behind, resets_it, ends_after}
 use Rattle.theory_errors.specs.Turn.{rest_of}
@@ -159,7 +159,7 @@ module _ (setup : Setup) (fails : Bool) (s : Summary) (noted : Noted) (by : open
       ap (λ o. or_else o (malformed_in outline s (Came noted)))
       (skip (early_rows s noted) (unless_of_stream (fault_by_standing_in s noted.frame) ∷ stream_update_in s noted.frame ∷ stream_data_in s noted.frame ∷ fault_by_standing_in s noted.frame ∷ no_goaway_in s noted ∷ []) early_none
       ∙ ap (λ (o : Option Fault). first_of (unless_of_stream o ∷ stream_update_in s noted.frame ∷ stream_data_in s noted.frame ∷ o ∷ no_goaway_in s noted ∷ [])) is
-      ∙ ap (λ b. first_of (first_of (fault_if (b && grants_nothing noted.frame) (Stream protocol_error) ∷ fault_if (b && grants_past (window_in s.first_size (s.stream noted.frame.id)) noted.frame) (Stream flow_control_error) ∷ []) ∷ fault_if (b && is_past_room (s.stream noted.frame.id).room noted.frame) (Stream flow_control_error) ∷ Some (Stream refused_stream) ∷ no_goaway_in s noted ∷ [])) inactive)
+      ∙ ap (λ b. first_of (first_of (fault_if (b && grants_nothing noted.frame) (Stream protocol_error) ∷ fault_if (b && grants_past (window_in s.first_size (s.stream noted.frame.id)) noted.frame) (Stream flow_control_error) ∷ []) ∷ fault_if (b && is_past_room (room_in s.own (s.stream noted.frame.id)) noted.frame) (Stream flow_control_error) ∷ Some (Stream refused_stream) ∷ no_goaway_in s noted ∷ [])) inactive)
 
   -- then its reset is owed
   reset_owed : nat_lt (length (active_in s)) most_active ≡ false → list_any (resets_it noted.frame.id) (owes_in setup fails s (Came noted)) ≡ true

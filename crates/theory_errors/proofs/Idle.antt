@@ -7,7 +7,7 @@ use Rattle.std.specs.List.{list_any, list_all}
 use Rattle.model.specs.Messages.{Item}
 use Rattle.model.specs.Messages.Item.{Content}
 use Rattle.model.specs.Frames.{data_kind, rst_stream_kind, window_update_kind, ends_stream, content}
-use Rattle.model.specs.Limits.{first_window, most_streams}
+use Rattle.model.specs.Limits.{most_streams}
 use Rattle.model.specs.Setup.{Setup}
 use Rattle.model.specs.Logs.{Event, Act}
 use Rattle.model.specs.Tapes.{Noted, Entry}
@@ -52,7 +52,7 @@ untold setup fails s e id found no_cause goes_on no_items =
     ∙ ap (λ (xs : List Item). outline_behind fresh.outline false xs None false) no_items
 
 -- a stream of which all parts are as they were
-all_fresh : (kept : Kept) → kept.ended_by_client ≡ false → kept.ended_by_gateway ≡ false → kept.reset_by_client ≡ false → kept.reset_by_gateway ≡ false → kept.balance ≡ pos 0 → kept.room ≡ pos first_window → kept.head_out ≡ false → kept.outline ≡ fresh.outline → kept ≡ fresh
+all_fresh : (kept : Kept) → kept.ended_by_client ≡ false → kept.ended_by_gateway ≡ false → kept.reset_by_client ≡ false → kept.reset_by_gateway ≡ false → kept.balance ≡ pos 0 → kept.room ≡ pos 0 → kept.head_out ≡ false → kept.outline ≡ fresh.outline → kept ≡ fresh
 all_fresh kept a b c d balance room out outline =
     ap (λ x. record kept { ended_by_client = x }) a
     ∙ ap (λ x. record kept { ended_by_client = false; ended_by_gateway = x }) b
@@ -96,7 +96,7 @@ module _ (setup : Setup) (fails : Bool) (s : Summary) (id : ℕ) where
       (not_it (noted.frame.id == id) (ends_by (completed_in s.block noted.frame) noted.frame) apart) refl
       (nor_it (noted.frame.kind == rst_stream_kind) (noted.frame.id == id) apart) refl
       (none_more (is_sound s noted.frame) 0 (grant id noted.frame) (zero_unless (noted.frame.kind == window_update_kind) (noted.frame.id == id) (increment noted.frame) apart))
-      (none_less first_window _ (zero_unless (noted.frame.kind == data_kind) (noted.frame.id == id) (length noted.frame.payload) apart))
+      (none_less 0 _ (zero_unless (noted.frame.kind == data_kind) (noted.frame.id == id) (length noted.frame.payload) apart))
       refl
       (untold setup fails s (Came noted) id found
       (ap (λ b. if b && nat_lt 0 id then cause_in setup fails fresh.outline s (Came noted) found else None) apart)
@@ -109,7 +109,7 @@ module _ (setup : Setup) (fails : Bool) (s : Summary) (id : ℕ) where
       refl (not_it (noted.frame.id == id) (ends_by (completed_in s.block_out noted.frame) noted.frame) apart)
       refl (nor_it (noted.frame.kind == rst_stream_kind) (noted.frame.id == id) apart)
       (none_less 0 _ (zero_unless (noted.frame.kind == data_kind) (noted.frame.id == id) (length noted.frame.payload) apart))
-      (none_more true first_window (grant id noted.frame) (zero_unless (noted.frame.kind == window_update_kind) (noted.frame.id == id) (increment noted.frame) apart))
+      (none_more true 0 (grant id noted.frame) (zero_unless (noted.frame.kind == window_update_kind) (noted.frame.id == id) (increment noted.frame) apart))
       (ap (λ b. list_any is_final (if b then frame_items (completed_in s.block_out noted.frame) noted else [])) apart)
       (untold setup fails s (Sent noted) id None
       (no_cause_if (0 == id && nat_lt 0 id) None refl)
@@ -122,7 +122,7 @@ module _ (setup : Setup) (fails : Bool) (s : Summary) (id : ℕ) where
       (nor_it (noted.frame.id == id) (ends_by (completed_in s.block noted.frame) noted.frame) (ap (λ (b : Option Partial). ends_by b noted.frame) idle.no_block ∙ and_left (noted.frame.kind == data_kind) (ends_stream noted.frame) idle.no_data)) refl
       (not_it (noted.frame.kind == rst_stream_kind) (noted.frame.id == id) idle.no_reset) refl
       (none_more (is_sound s noted.frame) 0 (grant id noted.frame) (zero_if_not (noted.frame.kind == window_update_kind) (noted.frame.id == id) (increment noted.frame) idle.no_grant))
-      (none_less first_window _ (zero_if_not (noted.frame.kind == data_kind) (noted.frame.id == id) (length noted.frame.payload) idle.no_data))
+      (none_less 0 _ (zero_if_not (noted.frame.kind == data_kind) (noted.frame.id == id) (length noted.frame.payload) idle.no_data))
       refl
       (untold setup fails s (Came noted) id found
       (ap (λ (x : Option Fault). new_cause_in setup fails id s (Came noted) fresh.outline x) none ∙ no_cause_if (noted.frame.id == id && nat_lt 0 id) _ (idle_cause setup fresh.outline s noted bears_none))

@@ -23,7 +23,7 @@ use Rattle.model.specs.Causes.{Cause}
 use Rattle.model.specs.Courses.{first_of_both}
 use Rattle.model.specs.ErrorClause.{acks, is_fatal, reset_for}
 use Rattle.theory_errors.specs.Summary.{Outline, Stream as Kept, Summary}
-use Rattle.theory_errors.specs.Judging.{completed_in, fault_for, malformed_in, rows_in, fault_on_in, fault_by_standing_in, continuations_in, shifts_past_in, standing_in, is_active_in, window_in, is_crowded_in, are_last}
+use Rattle.theory_errors.specs.Judging.{completed_in, fault_for, malformed_in, rows_in, fault_on_in, fault_by_standing_in, continuations_in, shifts_past_in, standing_in, is_active_in, window_in, is_crowded_in, are_last, room_in}
 use Rattle.theory_errors.specs.Owing.{owed_first_in, highest_in, new_cause_in, outline_from, owes_in, resets_in}
 use Rattle.theory_errors.specs.After.{is_sound, grant, stream_from, begun_after}
 use Rattle.theory_errors.specs.Rows.{Row, Slot, kept_in, slot_of, find, row_behind, row_opened, rows_after, over_kept}
@@ -57,9 +57,9 @@ all_stay f (row ∷ rows) kept stays = ap (λ (r : Row). r ∷ map f rows) (stay
 
 -- two books with the same parts
 pub same_book : (a b : Book) → a.has_come ≡ b.has_come → a.block ≡ b.block → a.continuations ≡ b.continuations → a.block_out ≡ b.block_out → a.first_size ≡ b.first_size → a.window ≡ b.window → a.room ≡ b.room → a.rows ≡ b.rows → a.resets ≡ b.resets → a.ends ≡ b.ends
-    → record a { given = b.given; last = b.last; closed = b.closed; untaken = b.untaken } ≡ b
+    → record a { own = b.own; given = b.given; last = b.last; closed = b.closed; untaken = b.untaken } ≡ b
 same_book a b has_come block continuations block_out first_size window room rows resets ends =
-    ap (λ x. record a { has_come = x; given = b.given; last = b.last; closed = b.closed; untaken = b.untaken }) has_come
+    ap (λ x. record a { has_come = x; own = b.own; given = b.given; last = b.last; closed = b.closed; untaken = b.untaken }) has_come
     ∙ ap (λ x. record b { block = x; continuations = a.continuations; block_out = a.block_out; first_size = a.first_size; window = a.window; room = a.room; rows = a.rows; resets = a.resets; ends = a.ends }) block
     ∙ ap (λ x. record b { continuations = x; block_out = a.block_out; first_size = a.first_size; window = a.window; room = a.room; rows = a.rows; resets = a.resets; ends = a.ends }) continuations
     ∙ ap (λ x. record b { block_out = x; first_size = a.first_size; window = a.window; room = a.room; rows = a.rows; resets = a.resets; ends = a.ends }) block_out
@@ -127,7 +127,7 @@ module _ (s : Summary) (frame : Frame) (quiet : IsQuiet frame) (order : IsInOrde
       ∙ skip _ _ (ap unless_of_stream judged_none)
       ∙ skip _ _ (ap (λ b. first_of (fault_if (is_active_in frame.id s && (b && increment frame == 0)) (Stream protocol_error) ∷ fault_if (is_active_in frame.id s && (b && is_past (window_in s.first_size (s.stream frame.id) +ℤ pos (increment frame)))) (Stream flow_control_error) ∷ [])) quiet.control.no_update
       ∙ both_none (is_active_in frame.id s) (increment frame == 0) (is_past (window_in s.first_size (s.stream frame.id) +ℤ pos (increment frame))) (Stream protocol_error) (Stream flow_control_error))
-      ∙ skip _ _ (no_fault_if _ _ (ap (λ b. is_active_in frame.id s && (b && int_lt (s.stream frame.id).room (pos (length frame.payload)))) quiet.control.no_data ∙ and_right (is_active_in frame.id s) false refl))
+      ∙ skip _ _ (no_fault_if _ _ (ap (λ b. is_active_in frame.id s && (b && int_lt (room_in s.own (s.stream frame.id)) (pos (length frame.payload)))) quiet.control.no_data ∙ and_right (is_active_in frame.id s) false refl))
       ∙ skip _ _ judged_none
       ∙ skip _ _ (no_fault_if _ _ (ap (λ (block : Option Partial). are_last s (if opens_by s.opened block NoBlock then frame.id ∷ s.opened else s.opened) && is_crowded_in s) completes
       ∙ ap (λ b. b && is_crowded_in s) (neither (length s.opened) most_streams)))

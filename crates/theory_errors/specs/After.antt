@@ -182,6 +182,7 @@ after setup fails s e = record {
   continuations = continuations_after s.continuations e;
   block_out = block_out_after s.block_out e;
   first_size = first_size_after s e;
+  own = s.own;
   window = window_after s.window is_any 0 s e;
   room = room_after s.room is_any 0 e;
   opened = opened_after s e;

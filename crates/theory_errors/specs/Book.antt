@@ -23,6 +23,7 @@ pub record Book : Type 0 where
   pub continuations : ℕ
   pub block_out : Option Partial
   pub first_size : ℕ
+  pub own : ℕ
   pub window : ℤ
   pub room : ℤ
   pub rows : List Row
@@ -41,6 +42,7 @@ summary_in book = record {
   continuations = book.continuations;
   block_out = book.block_out;
   first_size = book.first_size;
+  own = book.own;
   window = book.window;
   room = book.room;
   opened = ids_of book.rows;
@@ -61,6 +63,7 @@ book_with rows s = record {
   continuations = s.continuations;
   block_out = s.block_out;
   first_size = s.first_size;
+  own = s.own;
   window = s.window;
   room = s.room;
   rows = rows;
@@ -124,7 +127,7 @@ pub record MayMove (ledger : Ledger) (m : Move) : Type 0 where
 
 -- what is kept before anything comes
 abbrev pub first_ledger : Setup → Ledger
-first_ledger setup = record { book = book_with [] (first_point setup).summary; queue = settings_frame ∷ [] }
+first_ledger setup = record { book = book_with [] (first_point setup).summary; queue = settings_frame setup.more_room ∷ [] }
 
 -- what is kept behind moves
 abbrev pub ledger_of : Setup → List Move → Ledger

@@ -161,10 +161,14 @@ stream_update_in s frame =
     ∷ []
     )
 
+-- the receiving window of a stream of which this is kept, where such windows begin with so many octets
+abbrev pub room_in : ℕ → Kept → ℤ
+room_in own kept = pos own +ℤ kept.room
+
 -- DATA over an active stream's window
 abbrev pub stream_data_in : Summary → Frame → Option Fault
 stream_data_in s frame =
-    fault_if (is_active_in frame.id s && is_past_room (s.stream frame.id).room frame) (Stream flow_control_error)
+    fault_if (is_active_in frame.id s && is_past_room (room_in s.own (s.stream frame.id)) frame) (Stream flow_control_error)
 
 -- a frame that brings its stream, of which this is kept, what is no request
 abbrev pub malformed_in : Outline → Summary → Entry → Option Fault

@@ -2,7 +2,7 @@
 -- gateway reset it; of all other ids nothing.
 use Rattle.std.specs.Prelude.{◌≡◌, ℕ, Bool, true, false, ◌≤◌, ◌==◌, if◌then◌else◌, List, [], ◌∷◌, map, length, None, pos}
 use Rattle.std.specs.List.{list_any}
-use Rattle.model.specs.Limits.{first_window, most_streams}
+use Rattle.model.specs.Limits.{most_streams}
 use Rattle.model.specs.Setup.{Setup}
 use Rattle.model.specs.Tapes.{Entry}
 use Rattle.model.specs.Tapes.Entry.{Came}
@@ -19,7 +19,7 @@ fresh = record {
   reset_by_client = false;
   reset_by_gateway = false;
   balance = pos 0;
-  room = pos first_window;
+  room = pos 0;
   head_out = false;
   outline = record { begun = false; declared = None; octets = 0; over = false; cause = None; head_out = false };
 }

@@ -29,8 +29,8 @@ pub record Counting (t : List Entry) (s : State) : Type 0 where
   pub none_took : s.took 0 ≡ 0
 
 -- nothing came
-pub counting_start : Counting [] start
-counting_start = record {
+pub counting_start : (more : ℕ) → Counting [] (start more)
+counting_start more = record {
   out = λ k. refl;
   took = λ k. refl;
   within = λ k. omega arith;

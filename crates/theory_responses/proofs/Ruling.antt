@@ -11,6 +11,7 @@ use Rattle.model.specs.Decoding.{completed}
 use Rattle.model.specs.Streams.{items_of}
 use Rattle.model.specs.Openings.{Opened, exchanges, given}
 use Rattle.model.specs.Available.{items_on}
+use Rattle.model.specs.Setup.{own_window}
 use Rattle.model.specs.Known.{Known, fails_behind}
 use Rattle.model.specs.Causes.{Cause}
 use Rattle.model.specs.Causes.Cause.{BadAnswer}
@@ -46,7 +47,7 @@ grown_some false (x ∷ xs) ys some e = cc
 -- a stream that has items keeps them
 pub items_kept : (known : Known) (stream : ℕ) (t : List Entry) (e : Entry) → (items known stream t ≡ [] → ⊥) → items known stream (e ∷ t) ≡ [] → ⊥
 items_kept known stream t e =
-    grown_some ((course known stream t).over || interrupts stream e (fault_with (carried (course known stream t)) t e) (cause_of known stream t e)) (items known stream t) (items_of stream t e)
+    grown_some ((course known stream t).over || interrupts stream e (fault_with (own_window known.setup) (carried (course known stream t)) t e) (cause_of known stream t e)) (items known stream t) (items_of stream t e)
 
 -- ---- lives
 

@@ -110,6 +110,7 @@ ledger_with row window untaken = record {
     continuations = 0;
     block_out = None;
     first_size = 65535;
+    own = 65535;
     window = pos window;
     room = pos 65535;
     rows = row ∷ [];

@@ -1,8 +1,8 @@
-use Rattle.std.proofs.Common.{◌≡◌, ◌==◌, ℕ, suc, true, false, not, ◌&&◌, nat_lt, if◌then◌else◌, List, Option, Some, None, refl, sym, ◌∙◌, ap, subst, arith, inl, inr, Bool, length}
+use Rattle.std.proofs.Common.{◌≡◌, ◌==◌, ℕ, suc, true, false, not, ◌&&◌, nat_lt, if◌then◌else◌, List, Option, Some, None, refl, sym, ◌∙◌, ap, arith, inl, inr, Bool, length}
 use Rattle.std.proofs.lemmas.Bool.{cases_Bool, ne_eqb, eqb-true}
 use Rattle.std.specs.Prelude.{is_some, option_map}
 use Rattle.model.specs.Errors.{Fault}
-use Rattle.model.specs.Errors.Fault.{Connection, Stream, Discarded}
+use Rattle.model.specs.Errors.Fault.{Stream, Discarded}
 use Rattle.model.specs.Limits.{most_streams}
 use Rattle.model.specs.Lifetimes.{may_open}
 use Rattle.model.specs.ErrorTable.{fault_of, unless_of_stream}
@@ -16,7 +16,7 @@ use Rattle.connection_state.specs.Judgement.{fault_told}
 use Rattle.connection_state.specs.Blocks.{IsOpenOrIdle, opens_last, fault_on}
 use Rattle.connection_state.proofs.BlockRows.{wanted_by, active_closed, idle_of}
 use Rattle.connection_state.proofs.Kept.{active_found, none_found}
-use Rattle.connection_state.proofs.Settling.{not_last, refused_alike, last_fault, last_is}
+use Rattle.connection_state.proofs.Settling.{not_last, last_fault, last_is}
 use Rattle.connection_state.proofs.blocks.is_last.Goals as goal
 
 -- where the state of its stream allows a block

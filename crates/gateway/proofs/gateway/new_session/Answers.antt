@@ -12,6 +12,6 @@ returns-clause-small c setup = none_small setup _ (c.new.ensures.book setup) c.n
 -- by any setup
 pub returns-clause-nothing : goal.returns-clause-nothing
 returns-clause-nothing c =
-    let some : Setup = record { routes = []; policy = Plain; passing = Whole; max_body = 0; max_response = 0; keep = false; most_idle = 8 } in
+    let some : Setup = record { routes = []; policy = Plain; passing = Whole; max_body = 0; max_response = 0; keep = false; most_idle = 8; more_room = 0 } in
     let session : View = record { inbound = c.new.result; offers = c.new-2.result; upstreams = c.new-3.result; marks = c.new-4.result; encoding = c.new-5.result; untaken = 0 } in
     none_held some session (c.new.ensures.book some) c.new-2.ensures c.new-3.ensures c.new.ensures.table c.new-5.ensures

@@ -1,6 +1,6 @@
 use Rattle.std.proofs.Common.{◌≡◌, ap, sym, ◌∙◌, refl, subst, true, Some, None, List, arith}
 use Rattle.std.proofs.lemmas.Bool.{le-leb, lt-leb}
-use Rattle.std.specs.Prelude.{ℕ, ◌+◌, suc, Bool, false, ◌&&◌, ◌≤◌, ◌<◌, Option, option_map, nat_le}
+use Rattle.std.specs.Prelude.{ℕ, ◌+◌, suc, false, ◌&&◌, Option, option_map, nat_le}
 use Rattle.model.specs.Errors as errors
 use Rattle.model.specs.Errors.{or_else}
 use Rattle.model.specs.FrameErrors.{fault_if}

@@ -58,11 +58,13 @@ impl Connection {
     }
 
     /// Notes that so many octets were given back to the connection (RFC 9113, section 6.9), whose
-    /// receiving window has room for them.
+    /// receiving window has no more then than it is to have at first.
     pub fn gave_back(&mut self, octets: u32)
-        requires { (self.old.room +ℤ pos octets) ≤ℤ pos greatest_window }
+        requires { (self.old.room +ℤ pos octets) ≤ℤ pos self.old.own }
         ensures { self.new ≡ record self.old { room = self.old.room +ℤ pos octets } }
     {
+        // The size with which receiving windows begin is a window's.
+        let _own = self.receiving_window();
         let _ = self.room.grant(octets);
     }
 
@@ -99,6 +101,15 @@ impl Connection {
         ensures in_range { IsSize self.now.room }
     {
         self.room.left()
+    }
+
+    /// The size with which receiving windows begin, in octets, of at most 2,147,483,647: those of
+    /// streams, and that of the connection once it was made as large (RFC 9113, section 6.9.2).
+    pub fn receiving_window(&self) -> u32
+        ensures is { result ≡ self.now.own }
+        ensures in_range { self.now.own ≤ greatest_window }
+    {
+        self.own
     }
 
     /// The size with which streams' sending windows begin, in octets, of at most 2,147,483,647 (RFC

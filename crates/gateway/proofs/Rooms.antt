@@ -129,8 +129,8 @@ module _ (setup : Setup) (g : Standing) (log : List Step) (run : List Move) (sta
   room_found : (k : ℕ) (c : Connection) → find number_of k g.kept.upstreams.live ≡ Some c → HasRoom c
   room_found k c found =
       let number : c.live.k ≡ k = found_key number_of k g.kept.upstreams.live c found in
-      let opened : admission.is_open k (tape_of run) ≡ true = sym (up_by_tape setup run g.kept (pending_in g.phase) o.state o.leads k) ∙ ap is_some found in
-      let told = (open_room setup run g.kept (pending_in g.phase) o.state o.leads o.settled known refl (known_so setup (conducts run)) k).opened opened in
+      let opened : admission.is_open k (tape_of run) ≡ true = sym (up_by_tape setup run g.kept (pending_in setup.more_room g.phase) o.state o.leads k) ∙ ap is_some found in
+      let told = (open_room setup run g.kept (pending_in setup.more_room g.phase) o.state o.leads o.settled known refl (known_so setup (conducts run)) k).opened opened in
       subst (λ n. IsRoom known.setup.passing known n (tape_of run) (room_of g.kept.offers (Some c))) (sym number)
       (subst (IsRoom known.setup.passing known k (tape_of run)) (ap (room_of g.kept.offers) found) told)
 
@@ -152,7 +152,7 @@ module _ (setup : Setup) (g : Standing) (log : List Step) (run : List Move) (sta
     rise = subst Rise (sym (numbers_told g.kept.offers cs)) (rising_rise cs rising);
     listed = λ k.
         ap (is_among k) (numbers_told g.kept.offers cs)
-        ∙ sym (ap (λ l. is_among k (numbers l)) (reverse-reverse cs)) ∙ sym (among_found k (reverse cs)) ∙ ap (λ l. is_some (find number_of k l)) is ∙ up_by_tape setup run g.kept (pending_in g.phase) o.state o.leads k;
+        ∙ sym (ap (λ l. is_among k (numbers l)) (reverse-reverse cs)) ∙ sym (among_found k (reverse cs)) ∙ ap (λ l. is_some (find number_of k l)) is ∙ up_by_tape setup run g.kept (pending_in setup.more_room g.phase) o.state o.leads k;
     each = told_each cs (all_turned HasRoom cs (subst (AllByRecursion HasRoom) (sym is) all_rooms));
   }
 

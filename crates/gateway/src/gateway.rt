@@ -24,7 +24,7 @@ ghost use Rattle.theory_memory_bound.specs.Held.{IsSmall, held_in as held_in_ses
 ghost use Rattle.gateway.specs.Held.{IsHeldWithin, held_in};
 ghost use Rattle.gateway.specs.Rooms.{TellsRoom, AreRooms, AreAllIdle, room_in, rooms_in, turns, fails};
 ghost use Rattle.gateway.specs.Setups.{setup_of, IsServable};
-ghost use Rattle.gateway.specs.Stands.{IsFresh, Serves, Stands, StandsNext, admits, room_of, opened_in, is_dead, is_open};
+ghost use Rattle.gateway.specs.Stands.{IsFresh, Serves, Stands, StandsNext, admits, room_of, opened_in, pending_in, is_dead, is_open};
 ghost use Rattle.gateway.specs.Receiving.{Receives, ReadsOn, Happens, Greets, KeepsTerms, IsSettledIf, is_begun};
 
 use crate::config::Config;
@@ -135,7 +135,7 @@ fn new_session(alloc: Global) -> Session
     ensures no_marks { result.marks ≡ [] }
 {
     Session {
-        inbound: Connection::new(alloc),
+        inbound: Connection::new(alloc, 0),
         offers: Offers::new(alloc),
         upstreams: Upstreams::new(alloc),
         marks: Marks::new(alloc),
@@ -192,8 +192,8 @@ impl Model for Gateway {
 
 impl Gateway {
     /// A gateway for a new connection of a client, to which nothing came. The maxima are at most
-    /// 1,073,741,824, and there are at most 4,294,967,295 routes. An `Err` says that memory was
-    /// refused.
+    /// 1,073,741,824, windows have at most 1,048,576 octets, and there are at most 4,294,967,295
+    /// routes. An `Err` says that memory was refused.
     pub fn new(alloc: Global, config: &Config) -> Result<Gateway, AllocError>
         requires { IsServable (setup_of config.now) }
         ensures { IfOk result (λ gateway. Stands (setup_of config.now) gateway [] []) }
@@ -209,7 +209,7 @@ impl Gateway {
             phase: Phase::New,
             partial: Vec::new(alloc),
             session: Session {
-                inbound: Connection::new(alloc),
+                inbound: Connection::new(alloc, config.more_room()),
                 offers: Offers::new(alloc),
                 upstreams: Upstreams::new(alloc),
                 marks: Marks::new(alloc),
@@ -410,7 +410,7 @@ impl Gateway {
         ensures closed { IsErrOf result Fault.Closed ↔ (is_dead self.old.phase ≡ true) }
         // What it holds of octets behind a step, answered or refused, stays below its bound, and
         // what it holds for each stream below a part of that; and of no stream it has more marks of
-        // DATA that waits than the connection's first receiving window has octets.
+        // DATA that waits than receiving windows have octets at first.
         ensures held { (setup : Setup) (log : List Step) (run : List Move) → Stands setup self.old log run → IsHeldWithin setup self.new }
         // Once it is closed, or memory was refused, it holds none.
         ensures lets_go { is_dead self.old.phase ≡ false → is_open self.new.phase ≡ false → held_in self.new ≡ 0 }
@@ -489,6 +489,7 @@ impl Gateway {
     fn greet(&mut self, out: &mut Outputs) -> Result<(), AllocError>
         requires settled { IsSettled self.old.kept }
         requires fresh { IsFresh self.old.phase self.old.kept }
+        requires reached { (setup : Setup) × Reached setup self.old.kept (pending_in setup.more_room self.old.phase) }
         requires nothing { out.old ≡ [] }
         ensures { OnOk result (Greets self.old self.new out.new) }
     {

@@ -77,6 +77,7 @@ inbound_in table book = record {
   block = book.block;
   continuations = book.continuations;
   first_size = book.first_size;
+  own = book.own;
   window = book.window;
   room = book.room;
   rows = book.rows;

@@ -192,7 +192,7 @@ fn first_that_differs(
     ended: bool,
     rows: &[Row<'_>],
 ) -> Result<Option<usize>, Fail> {
-    let mut connection = Connection::new(rt.alloc());
+    let mut connection = Connection::new(rt.alloc(), 0);
     first_behind_opening(&mut connection, ended, rows)
 }
 
@@ -369,6 +369,6 @@ fn assert_is_exhausted(rt: &impl Abort, connection: &mut Connection) -> Result<(
 
 #[test]
 fn connections_are_exhausted(rt: HostRuntime) -> Result<(), Fail> {
-    assert_is_exhausted(&rt, &mut Connection::new(rt.alloc()))?;
+    assert_is_exhausted(&rt, &mut Connection::new(rt.alloc(), 0))?;
     Ok(())
 }

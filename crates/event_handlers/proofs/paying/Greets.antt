@@ -1,7 +1,8 @@
 -- What the gateway sends before all else performs.
-use Rattle.std.proofs.Common.{◌≡◌, ℕ, ◌<◌, ◌-◌, false, nat_lt, List, [], ◌∷◌, refl, sym, ◌∙◌, ap, subst, arith}
+use Rattle.std.proofs.Common.{◌≡◌, ℕ, ◌+◌, ◌<◌, ◌-◌, ◌==◌, Bool, true, false, nat_lt, List, [], ◌∷◌, ◌++◌, length, Result, Ok, Err, if◌then◌else◌, refl, sym, ◌∙◌, ap, subst, arith}
+use Rattle.std.specs.Prelude.{IfErr}
 use Rattle.model.specs.Limits.{first_window, most_untaken}
-use Rattle.model.specs.Frames.{Frame, spell, settings_frame}
+use Rattle.model.specs.Frames.{Frame, spell, setting, settings_frame, settings_kind}
 use Rattle.model.specs.Logs.{Output}
 use Rattle.model.specs.Logs.Output.{ToClient}
 use Rattle.model.specs.Setup.{Setup}
@@ -14,7 +15,10 @@ use Rattle.refinement.specs.View.{View, Pending, balanced, first_pending, Leads}
 use Rattle.refinement.specs.Rest.{GoesOn, back_of}
 use Rattle.refinement.specs.Bringing.{PerformsOwn}
 use Rattle.refinement.proofs.Bringing.{own_then}
-use Rattle.event_handlers.specs.paying.Greeting.{more_in}
+use Rattle.event_handlers.specs.Stopping.{IfOver}
+use Rattle.event_handlers.specs.declared.halt.Halt.{Halt}
+use Rattle.event_handlers.specs.declared.halt.Halt.TheVariants as stop
+use Rattle.event_handlers.specs.paying.Greeting.{more_in, announced, IsMemory}
 use Rattle.event_handlers.specs.paying.Returning.{given_on_connection}
 use Rattle.event_handlers.proofs.paying.Fitting.{own_is}
 use Rattle.event_handlers.proofs.paying.Settled.{none_back, dropped_back}
@@ -26,6 +30,20 @@ behind_first own more is = omega (arith, is)
 -- Receiving windows are larger by as much as the setup says.
 pub more_is : (setup : Setup) (run : List Move) (kept : View) (pending : Pending) (s : State) → Leads setup run kept pending s → more_in kept ≡ setup.more_room
 more_is setup run kept pending s leads = behind_first kept.inbound.own setup.more_room (own_is setup run kept pending s leads)
+
+-- Behind the settings, where nothing waited for the client, few octets do.
+few_by : (n more : ℕ) (b : Bool) → n ≡ 0 → nat_lt most_untaken (n + length (spell (record { kind = settings_kind; flags = 0; id = 0; payload = setting 3 100 ++ (setting 6 16384 ++ (if b then [] else setting 4 (65535 + more))) }))) ≡ false
+few_by n more true none = ap (λ x. nat_lt most_untaken (x + 21)) none
+few_by n more false none = ap (λ x. nat_lt most_untaken (x + 27)) none
+
+pub few_behind : (kept : View) (more : ℕ) → kept.untaken ≡ 0 → nat_lt most_untaken (announced more kept).untaken ≡ false
+few_behind kept more none = few_by kept.untaken more (more == 0) none
+
+-- Where the connection isn't ended in place of a frame, memory was refused.
+pub memory_alone : {T : Type 0} {A : Type 0} (r : Result T Halt) → (A → ⊥) → IfErr r (λ e. IfOver e A) → IfErr r IsMemory
+memory_alone (Ok x) no over = tt
+memory_alone (Err stop.Memory) no over = tt
+memory_alone (Err stop.Over) no over = no over
 
 module _ (setup : Setup) (kept mid : View) (more : ℕ) (is : more ≡ more_in kept) (outputs p : List Output) where
   -- The settings are sent.

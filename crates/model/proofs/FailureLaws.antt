@@ -3,7 +3,7 @@ use Rattle.std.proofs.Common.{◌≡◌, ℕ, ◌≤◌, ◌<◌, Bool, true, fa
 use Rattle.std.specs.Prelude.{Option, Some, None, nat_lt, ◌&&◌}
 use Rattle.std.proofs.lemmas.Bool.Decides.{eqb_tells}
 use Rattle.model.specs.Logs.{Event}
-use Rattle.model.specs.Logs.Event.{Client, ClientEnd, ClientTook, Up, UpEnd, UpFailed, UpTook}
+use Rattle.model.specs.Logs.Event.{Client, ClientEnd, ClientTook, Up, UpEnd, UpFailed, UpTook, Drain}
 use Rattle.model.specs.Responses.{IsComplete}
 use Rattle.model.specs.Tapes.{Entry, sent}
 use Rattle.model.specs.Tapes.Entry.{Came, Breached, Happened, Sent, Did}
@@ -106,6 +106,7 @@ module _ (place : ℕ) (known : Known) where
   may_more t ClientEnd le h = absurd h
   may_more t (ClientTook count) le h = absurd h
   may_more t (UpTook k count) le h = absurd h
+  may_more t Drain le h = absurd h
 
   -- and one with which it must be was one
   must_less : (t : List Entry) (event : Event) → length t ≤ place → MustFail more t event → MustFail known t event
@@ -118,6 +119,7 @@ module _ (place : ℕ) (known : Known) where
   must_less t ClientEnd le h = absurd h
   must_less t (ClientTook count) le h = absurd h
   must_less t (UpTook k count) le h = absurd h
+  must_less t Drain le h = absurd h
 
   -- What was judged of an event is right with it.
   pub judged_more : (t : List Entry) (event : Event) (fails : Bool) → length t ≤ place → IsJudged known t event fails → IsJudged more t event fails

@@ -2,6 +2,7 @@ mod AnswerExamples
 mod BeginningExamples
 mod CauseExamples
 mod ChunkRefusals
+mod DrainExamples
 mod ErrorExamples
 mod FloodExamples
 mod FramesExamples

@@ -2,7 +2,7 @@
 use Rattle.std.proofs.Common.{◌≡◌, ℕ, not, ◌&&◌, ◌||◌, ◌==◌, List, [], ◌∷◌, ◌++◌, refl, sym, ap, ◌∙◌, subst, if◌then◌else◌}
 use Rattle.std.specs.Prelude.{Option, Some, None, nat_lt, reverse}
 use Rattle.model.specs.Frames.{Frame}
-use Rattle.model.specs.Logs.Event.{Client, ClientEnd, ClientTook, Up, UpEnd, UpFailed, UpTook}
+use Rattle.model.specs.Logs.Event.{Client, ClientEnd, ClientTook, Up, UpEnd, UpFailed, UpTook, Drain}
 use Rattle.model.specs.Tapes.{Noted, Entry, sent}
 use Rattle.model.specs.Tapes.Entry.{Came, Breached, Happened, Sent, Did}
 use Rattle.model.specs.Errors.{Fault}
@@ -83,6 +83,7 @@ module _ (known : Known) where
   calls_is (Happened (UpEnd k) ∷ t) s = refl
   calls_is (Happened (UpFailed k) ∷ t) s = refl
   calls_is (Happened (UpTook k count) ∷ t) s = refl
+  calls_is (Happened Drain ∷ t) s = refl
   calls_is (Sent noted ∷ t) s = ap (λ b. is_calming noted.frame || b) (calls_is t (before known (Sent noted) t s))
   calls_is (Did act ∷ t) s = calls_is t (before known (Did act) t s)
 

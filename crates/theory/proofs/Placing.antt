@@ -4,7 +4,7 @@ use Rattle.model.specs.Messages.{Item}
 use Rattle.model.specs.Messages.Item.{Block}
 use Rattle.model.specs.Setup.{Setup}
 use Rattle.model.specs.Logs.{Event, Act}
-use Rattle.model.specs.Logs.Event.{Client, ClientEnd, ClientTook, Up, UpEnd, UpFailed, UpTook}
+use Rattle.model.specs.Logs.Event.{Client, ClientEnd, ClientTook, Up, UpEnd, UpFailed, UpTook, Drain}
 use Rattle.model.specs.Logs.Act.{Open, ToUp, Close, CloseClient}
 use Rattle.model.specs.Frames.{window_update_kind}
 use Rattle.model.specs.Openings.{exchanges, given, last_stream, begins_another}
@@ -195,6 +195,7 @@ failed_so known t (ClientTook count) heard so = so
 failed_so known t (Up k piece) heard so = so
 failed_so known t (UpEnd k) heard so = so
 failed_so known t (UpTook k count) heard so = so
+failed_so known t Drain heard so = so
 
 -- what comes of an idle connection
 idled_so : (known : Known) (t : List Entry) (event : Event) → IsIdle known t (upstream_of event) → IsSo known t (idled event)
@@ -206,6 +207,7 @@ idled_so known t (Up k (octet ∷ octets)) idle = hears_more known t k idle octe
 idled_so known t (UpEnd k) idle = hears_end known t k idle
 idled_so known t (UpFailed k) idle = tt
 idled_so known t (UpTook k count) idle = tt
+idled_so known t Drain idle = tt
 
 request_so : (known : Known) (run : List Move) → AreKnown known (conducts run) → (all : AllAllowed known.setup run) → (d : Decision) → Rattle.theory.specs.Rule.AdditionsIf known.setup (summary_at known.setup run) d → IsAnswered known (tape_of run) d → IsSo known (tape_of run) (request_of d)
 request_so known run knows all (Takes noted next addition) additions so = gained_so known (tape_of run) (summary_at known.setup run) noted addition (addition_told known run knows all noted) additions

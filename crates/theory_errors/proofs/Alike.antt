@@ -41,7 +41,7 @@ module _ (f : ℕ → Kept) (s : Summary) (will : WillDo f s) where
   fault_on_seen : (id : ℕ) (kind : Option ℕ) → fault_on_in seen id kind ≡ fault_on_in s id kind
   fault_on_seen id None = refl
   fault_on_seen id (Some kind) =
-      ap fault_of (standing_verdict (length (active_in seen)) kind f s.stream s.opened all_alike id)
+      ap fault_of (standing_verdict s.drained (length (active_in seen)) kind f s.stream s.opened all_alike id)
       ∙ ap (λ (ids : List ℕ). fault_of (verdict (length ids) (standing_in s id) kind)) active_same
 
   pub by_standing_seen : (frame : Frame) → fault_by_standing_in seen frame ≡ fault_by_standing_in s frame
@@ -50,7 +50,7 @@ module _ (f : ℕ → Kept) (s : Summary) (will : WillDo f s) where
   idle_seen : (frame : Frame) → idle_in seen frame ≡ idle_in s frame
   idle_seen frame =
       let no_headers : Bool = not (is_headers (judged (completed_in s.block frame) frame)) in
-      ap (λ b. if b && no_headers then fault_by_standing_in seen frame else None) (standing_idle f s.stream s.opened frame.id)
+      ap (λ b. if b && no_headers then fault_by_standing_in seen frame else None) (standing_idle s.drained f s.stream s.opened frame.id)
       ∙ ap (λ (x : Option Fault). if is_idle (standing_in s frame.id) && no_headers then x else None) (by_standing_seen frame)
 
   -- a test of a stream where it is active

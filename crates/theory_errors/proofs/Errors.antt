@@ -321,10 +321,10 @@ acts known t queue act h closes = record {
   begins = h.begins;
   owing = h.owing ∙ sym (ap (λ (fs : List Frame). reverse fs ++ owed known t) (did_nothing known t act));
   followed = λ behind last.
-      let none : owed_first t (Did act) None ≡ [] = no_goaway t (Did act) refl in
+      let none : owed_first t (Did act) None ≡ [] = no_goaway t (Did act) refl refl in
       (inl (behind ++ reverse queue, sym (ap (λ (fs : List Frame). (behind ++ reverse queue) ++ reverse fs) none ∙ append-nil (behind ++ reverse queue))), h.followed behind last);
   cut = λ last calming on_yet some rest same.
-      let none : owed_first t (Did act) None ≡ [] = no_goaway t (Did act) refl in
+      let none : owed_first t (Did act) None ≡ [] = no_goaway t (Did act) refl refl in
       (inl (last ∷ reverse some, sym (ap (λ (fs : List Frame). (last ∷ reverse some) ++ reverse fs) none ∙ append-nil (last ∷ reverse some))), h.cut last calming on_yet some rest same);
   rightly_sent = h.rightly_sent;
   calm = h.calm;
@@ -380,10 +380,10 @@ none_first (Some Discarded) t e rest none = nothing_before (last_goaway t e) res
 none_newest : (known : Known) (t : List Entry) → queue_of known t ≡ [] → newest_goaway t ≡ []
 none_newest known [] none = refl
 none_newest known (Came noted ∷ t) none = none_first (fault known t (Came noted)) t (Came noted) (later_owed known t (Came noted) (fault known t (Came noted))) none
-none_newest known (Breached breach ∷ t) none = no_goaway t (Breached breach) refl
-none_newest known (Happened event ∷ t) none = no_goaway t (Happened event) refl
-none_newest known (Sent noted ∷ t) none = no_goaway t (Sent noted) refl
-none_newest known (Did act ∷ t) none = no_goaway t (Did act) refl
+none_newest known (Breached breach ∷ t) none = no_goaway t (Breached breach) refl refl
+none_newest known (Happened event ∷ t) none = none_first (fault known t (Happened event)) t (Happened event) (later_owed known t (Happened event) (fault known t (Happened event))) none
+none_newest known (Sent noted ∷ t) none = no_goaway t (Sent noted) refl refl
+none_newest known (Did act ∷ t) none = no_goaway t (Did act) refl refl
 
 -- an act in its turn stands where nothing is owed
 acts_unowed : (known : Known) (t : List Entry) (queue : List Frame) (act : Act) → MayAct known t queue act → queue ≡ []

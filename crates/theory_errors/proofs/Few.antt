@@ -129,25 +129,25 @@ any_right test (f ∷ fs) gs is = or_right (test f) (list_any test (fs ++ gs)) (
 -- ---- a frame that opens a stream
 
 -- the block that a frame completes, where it opens a stream
-block_there : (opened : List ℕ) (block : Option Partial) (noted : Noted) → opens_by opened block noted.note ≡ true → (b : Partial) × (block ≡ Some b)
-block_there opened None noted by = absurd (let no : false ≡ true = by in cc)
-block_there opened (Some b) noted by = (b, refl)
+block_there : (drained : Bool) (opened : List ℕ) (block : Option Partial) (noted : Noted) → opens_by drained opened block noted.note ≡ true → (b : Partial) × (block ≡ Some b)
+block_there drained opened None noted by = absurd (let no : false ≡ true = by in cc)
+block_there drained opened (Some b) noted by = (b, refl)
 
-module _ (setup : Setup) (fails : Bool) (s : Summary) (noted : Noted) (by : opens_by s.opened (completed_in s.block noted.frame) noted.note ≡ true) (on : ends_after s (Came noted) ≡ false) where
+module _ (setup : Setup) (fails : Bool) (s : Summary) (noted : Noted) (by : opens_by s.drained s.opened (completed_in s.block noted.frame) noted.note ≡ true) (on : ends_after s (Came noted) ≡ false) where
   abbrev outline : Outline
   outline = (s.stream noted.frame.id).outline
 
-  may : may_open s.opened noted.frame.id ≡ true
-  may = opens_own s.opened s.block noted.frame noted.note by
+  may : may_open s.drained s.opened noted.frame.id ≡ true
+  may = opens_own s.drained s.opened s.block noted.frame noted.note by
 
   -- its stream isn't active yet
   inactive : is_active_in noted.frame.id s ≡ false
-  inactive = ap (λ b. b && not (is_over_in (s.stream noted.frame.id))) (not_opened s.opened noted.frame.id may)
+  inactive = ap (λ b. b && not (is_over_in (s.stream noted.frame.id))) (not_opened s.drained s.opened noted.frame.id may)
 
   -- what comes of it by its standing
   by_standing : fault_by_standing_in s noted.frame ≡ fault_of (verdict (length (active_in s)) Idle headers_kind)
   by_standing =
-      let there = block_there s.opened (completed_in s.block noted.frame) noted by in
+      let there = block_there s.drained s.opened (completed_in s.block noted.frame) noted by in
       ap (λ (b : Option Partial). fault_on_in s noted.frame.id (judged b noted.frame)) there.1
       ∙ ap (λ (x : Standing). fault_of (verdict (length (active_in s)) x headers_kind)) (idle_standing s noted.frame.id may)
 
@@ -222,12 +222,12 @@ still_owed s noted queue more setup fails calmless (inl due) id on none = ap (λ
     or_both = ap (λ b. b || list_any (resets_it id) (rest_of queue)) not_it ∙ none_left
 
 few_kept : (setup : Setup) (p : Point) (e : Entry) (fails : Bool) → IsInTurn p e → ends_after p.summary e ≡ false → IsFew p → IsFew (point_after setup p (record { entry = e; fails = fails }))
-few_kept setup p (Came noted) fails turn on few = cases (opens_by p.summary.opened (completed_in p.summary.block noted.frame) noted.note) refl
+few_kept setup p (Came noted) fails turn on few = cases (opens_by p.summary.drained p.summary.opened (completed_in p.summary.block noted.frame) noted.note) refl
   where
     few_here : length (filter (lasts p.summary.stream []) p.summary.opened) ≤ most_active
     few_here = few_at p.summary p.queue turn.nothing few
 
-    cases : (b : Bool) → opens_by p.summary.opened (completed_in p.summary.block noted.frame) noted.note ≡ b → length (filter (lasts (behind setup fails p.summary (Came noted)) (owes_in setup fails p.summary (Came noted))) (if b then noted.frame.id ∷ p.summary.opened else p.summary.opened)) ≤ most_active
+    cases : (b : Bool) → opens_by p.summary.drained p.summary.opened (completed_in p.summary.block noted.frame) noted.note ≡ b → length (filter (lasts (behind setup fails p.summary (Came noted)) (owes_in setup fails p.summary (Came noted))) (if b then noted.frame.id ∷ p.summary.opened else p.summary.opened)) ≤ most_active
     cases true by = few_opened setup fails p.summary noted by on few_here
     cases false by = let less = lasted setup fails p.summary (Came noted) [] (owes_in setup fails p.summary (Came noted)) (λ id on_yet none. refl) in omega (arith, less, few_here)
 few_kept setup p (Breached breach) fails turn on few = absurd (let no : true ≡ false = on in cc)

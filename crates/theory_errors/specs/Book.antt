@@ -26,6 +26,7 @@ pub record Book : Type 0 where
   pub own : ℕ
   pub window : ℤ
   pub room : ℤ
+  pub drained : Bool
   pub rows : List Row
   pub resets : ℕ
   pub given : List Opened
@@ -45,6 +46,7 @@ summary_in book = record {
   own = book.own;
   window = book.window;
   room = book.room;
+  drained = book.drained;
   opened = ids_of book.rows;
   stream = find book.rows;
   resets = book.resets;
@@ -66,6 +68,7 @@ book_with rows s = record {
   own = s.own;
   window = s.window;
   room = s.room;
+  drained = s.drained;
   rows = rows;
   resets = s.resets;
   given = s.given;
@@ -110,7 +113,7 @@ abbrev pub IsSound : Bool → Summary → Entry → Type 0
 IsSound fails s (Came noted) = is_some (completed_in s.block noted.frame) ≡ true → is_told noted.note ≡ true
 IsSound fails s (Breached breach) = Unit {0}
 IsSound fails s (Happened event) = fails ≡ true → is_active_in (about_in s (Happened event)) s ≡ true
-IsSound fails s (Sent noted) = may_open s.opened noted.frame.id ≡ false
+IsSound fails s (Sent noted) = may_open s.drained s.opened noted.frame.id ≡ false
 IsSound fails s (Did act) = Unit {0}
 
 -- What any entry is: the header block of a frame that is such an error needs no reading.

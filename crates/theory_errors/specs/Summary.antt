@@ -13,7 +13,7 @@ use Rattle.model.specs.Decoding.{Partial, begun}
 use Rattle.model.specs.Known.{Known}
 use Rattle.model.specs.Setup.{own_window}
 use Rattle.model.specs.Openings.{Opened, exchanges, last_stream}
-use Rattle.model.specs.Lifetimes.{opened, is_ended_by_client, is_ended_by_gateway, is_reset_by_client, is_reset_by_gateway, resets_by_client}
+use Rattle.model.specs.Lifetimes.{is_drained, opened, is_ended_by_client, is_ended_by_gateway, is_reset_by_client, is_reset_by_gateway, resets_by_client}
 use Rattle.model.specs.FrameErrors.{last_continuations}
 use Rattle.model.specs.WindowsOnTape.{balance_on, first_size, connection_window, back_on, room_on_connection}
 use Rattle.model.specs.Courses.{Course, course, is_final}
@@ -65,6 +65,8 @@ pub record Summary : Type 0 where
   -- the connection's windows, in which it sends and in which it receives
   pub window : ℤ
   pub room : ℤ
+  -- the operator asked for the end of the connection
+  pub drained : Bool
   -- the streams that were opened, the newest first, and what is left of each
   pub opened : List ℕ
   pub stream : ℕ → Stream
@@ -114,6 +116,7 @@ summary_of known t = record {
   own = own_window known.setup;
   window = connection_window t;
   room = room_on_connection t;
+  drained = is_drained t;
   opened = opened t;
   stream = stream_of known t;
   resets = resets_by_client t;

@@ -6,13 +6,13 @@ use Rattle.std.proofs.lemmas.List.Sums.{sum_by-cons}
 use Rattle.std.proofs.lemmas.Bool.{and_parts, eq-eqb, ne_eqb}
 use Rattle.std.proofs.lemmas.Bool.Decides.{eqb_tells}
 use Rattle.model.specs.Logs.{Event}
-use Rattle.model.specs.Logs.Event.{Client, ClientEnd, ClientTook, Up, UpEnd, UpFailed, UpTook}
+use Rattle.model.specs.Logs.Event.{Client, ClientEnd, ClientTook, Up, UpEnd, UpFailed, UpTook, Drain}
 use Rattle.model.specs.Setup.{Passing}
 use Rattle.model.specs.Setup.Passing.{Whole, Streaming}
 use Rattle.model.specs.Tapes.{Noted, Breach, Entry, came, sent}
 use Rattle.model.specs.Tapes.Entry.{Came, Breached, Happened}
 use Rattle.model.specs.Decoding.{completed}
-use Rattle.model.specs.Lifetimes.{opened, opens_by, is_opened, is_over, is_active}
+use Rattle.model.specs.Lifetimes.{opened, opens_by, is_opened, is_over, is_active, is_drained}
 use Rattle.model.specs.Windows.{balance}
 use Rattle.model.specs.WindowsOnTape.{is_on, is_any, data_length, data_octets, increments}
 use Rattle.model.proofs.OpenedLaws.{opens_new}
@@ -87,7 +87,7 @@ module _ (more : ℕ) (passing : Passing) (t : List Entry) (s : State) (noted : 
     live =
         ap (λ ids. unless_over over noted.frame.id ids) h.live
         ∙ sym (goes_from_active t (Came noted) noted.frame.id over (ap (λ b. if b then noted.frame.id ∷ opened t else opened t) may.opens) (λ other off. active_came t noted other off) may.opened);
-    unopened = λ id out. h.unopened id (opened_before id (opens_by (opened t) (completed (came t) noted.frame) noted.note) out);
+    unopened = λ id out. h.unopened id (opened_before id (opens_by (is_drained t) (opened t) (completed (came t) noted.frame) noted.note) out);
     shared =
         let before = h.shared in
         let goes = drops more passing t s over noted.frame.id h may.was in
@@ -117,7 +117,7 @@ module _ (more : ℕ) (passing : Passing) (t : List Entry) (s : State) (noted : 
         live =
             ap (λ ids. noted.frame.id ∷ ids) h.live
             ∙ sym (comes_to_active t (Came noted) noted.frame.id (ap (λ b. if b then noted.frame.id ∷ opened t else opened t) may.opens) out (λ other off. active_came t noted other off) may.opened.1);
-        unopened = λ id off. h.unopened id (opened_before id (opens_by (opened t) (completed (came t) noted.frame) noted.note) off);
+        unopened = λ id off. h.unopened id (opened_before id (opens_by (is_drained t) (opened t) (completed (came t) noted.frame) noted.note) off);
         shared =
             let before = h.shared in
             let a = sum_by-cons (held s') noted.frame.id s.live in
@@ -198,6 +198,7 @@ module _ (more : ℕ) (passing : Passing) (t : List Entry) (s : State) (c : Coun
   -- Behind any event the invariant stays.
   pub keeping_event : (event : Event) → Keeping more passing (Happened event ∷ t) (with_event s event)
   keeping_event (UpTook k count) = keeping_taken k count
+  keeping_event Drain = record { live = h.live; unopened = h.unopened; shared = h.shared; streams = stands_event Drain }
   keeping_event (Client piece) = record { live = h.live; unopened = h.unopened; shared = h.shared; streams = stands_event (Client piece) }
   keeping_event ClientEnd = record { live = h.live; unopened = h.unopened; shared = h.shared; streams = stands_event ClientEnd }
   keeping_event (ClientTook count) = record { live = h.live; unopened = h.unopened; shared = h.shared; streams = stands_event (ClientTook count) }

@@ -10,7 +10,7 @@ use Rattle.model.specs.Setup.{Passing, own_window}
 use Rattle.model.specs.Decoding.{completed}
 use Rattle.model.specs.Known.{Known}
 use Rattle.model.specs.Openings.{last_stream, begins_another}
-use Rattle.model.specs.Lifetimes.{opened, opens_by, is_opened, active, is_active}
+use Rattle.model.specs.Lifetimes.{opened, opens_by, is_opened, active, is_active, is_drained}
 use Rattle.model.specs.WindowClause.{GivesBack, GoesBack}
 use Rattle.model.specs.Headline.{HoldsInTurn}
 use Rattle.model.proofs.OpenedLaws.{opens_own, opens_new}
@@ -27,8 +27,8 @@ use Rattle.theory_receive_windows.proofs.Resting.{receiving, gives_back_at_rest,
 use Rattle.theory_receive_windows.proofs.Withholding.{holds_back}
 
 -- a frame opens its stream just where that wasn't opened before and is behind it
-opens_told : (t : List Entry) (noted : Noted) → opens_by (opened t) (completed (came t) noted.frame) noted.note ≡ (not (is_opened noted.frame.id t) && is_opened noted.frame.id (Came noted ∷ t))
-opens_told t noted = by (opens_by (opened t) (completed (came t) noted.frame) noted.note) refl
+opens_told : (t : List Entry) (noted : Noted) → opens_by (is_drained t) (opened t) (completed (came t) noted.frame) noted.note ≡ (not (is_opened noted.frame.id t) && is_opened noted.frame.id (Came noted ∷ t))
+opens_told t noted = by (opens_by (is_drained t) (opened t) (completed (came t) noted.frame) noted.note) refl
   where
     id : ℕ
     id = noted.frame.id
@@ -37,7 +37,7 @@ opens_told t noted = by (opens_by (opened t) (completed (came t) noted.frame) no
     never true = refl
     never false = refl
 
-    by : (b : Bool) → opens_by (opened t) (completed (came t) noted.frame) noted.note ≡ b → b ≡ (not (is_opened noted.frame.id t) && list_any (λ other. other == noted.frame.id) (if b then noted.frame.id ∷ opened t else opened t))
+    by : (b : Bool) → opens_by (is_drained t) (opened t) (completed (came t) noted.frame) noted.note ≡ b → b ≡ (not (is_opened noted.frame.id t) && list_any (λ other. other == noted.frame.id) (if b then noted.frame.id ∷ opened t else opened t))
     by true e =
         sym (ap (λ x. not x && (noted.frame.id == noted.frame.id || is_opened noted.frame.id t)) (opens_new t noted e) ∙ ap (λ x. x || is_opened noted.frame.id t) (eq-eqb noted.frame.id noted.frame.id refl))
     by false e = never (is_opened noted.frame.id t)
@@ -51,11 +51,11 @@ module _ (known : Known) (t : List Entry) (s : State) (noted : Noted) (before be
   -- ---- a frame of the client
 
   -- whether it opens its stream
-  opens_read : IsRightOf known (Came noted ∷ t) behind → (opens : Bool) → opens ≡ (not (before.opened noted.frame.id) && behind.opened noted.frame.id) → opens_by (opened t) (completed (came t) noted.frame) noted.note ≡ opens
+  opens_read : IsRightOf known (Came noted ∷ t) behind → (opens : Bool) → opens ≡ (not (before.opened noted.frame.id) && behind.opened noted.frame.id) → opens_by (is_drained t) (opened t) (completed (came t) noted.frame) noted.note ≡ opens
   opens_read now opens is = opens_told t noted ∙ sym (ap (λ b. not b && is_opened noted.frame.id (Came noted ∷ t)) (right.opened noted.frame.id)) ∙ sym (ap (λ b. not (before.opened noted.frame.id) && b) (now.opened noted.frame.id)) ∙ sym is
 
   -- its life, where it opens its stream
-  opened_new : before.ends ≡ false → IsRightOf known (Came noted ∷ t) behind → opens_by (opened t) (completed (came t) noted.frame) noted.note ≡ true → (over : Bool) → over ≡ is_over_by before behind noted.frame.id → behind.active noted.frame.id ≡ true → IsOpened t noted true over
+  opened_new : before.ends ≡ false → IsRightOf known (Came noted ∷ t) behind → opens_by (is_drained t) (opened t) (completed (came t) noted.frame) noted.note ≡ true → (over : Bool) → over ≡ is_over_by before behind noted.frame.id → behind.active noted.frame.id ≡ true → IsOpened t noted true over
   opened_new goes_on now by over is on = (
     is ∙ ap (λ b. before.active noted.frame.id && not b) on ∙ and_right (before.active noted.frame.id) false refl,
     sym (now.active noted.frame.id) ∙ on,
@@ -63,7 +63,7 @@ module _ (known : Known) (t : List Entry) (s : State) (noted : Noted) (before be
   )
 
   -- and where it doesn't
-  opened_old : IsRightOf known (Came noted ∷ t) behind → opens_by (opened t) (completed (came t) noted.frame) noted.note ≡ false → (over : Bool) → over ≡ is_over_by before behind noted.frame.id → IsOpened t noted false over
+  opened_old : IsRightOf known (Came noted ∷ t) behind → opens_by (is_drained t) (opened t) (completed (came t) noted.frame) noted.note ≡ false → (over : Bool) → over ≡ is_over_by before behind noted.frame.id → IsOpened t noted false over
   opened_old now none over is =
       by (before.active noted.frame.id) (behind.active noted.frame.id) (right.active noted.frame.id) (now.active noted.frame.id) ∙ ap (λ b. is_active noted.frame.id t && not b) (sym is)
     where

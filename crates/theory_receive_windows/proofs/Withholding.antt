@@ -6,7 +6,7 @@ use Rattle.std.proofs.lemmas.Bool.{cases_Bool, and_right, ne_eqb}
 use Rattle.std.proofs.lemmas.Bool.Decides.{eqb_tells}
 use Rattle.model.specs.Frames.{window_update_kind}
 use Rattle.model.specs.Logs.{Event}
-use Rattle.model.specs.Logs.Event.{Client, ClientEnd, ClientTook, Up, UpEnd, UpFailed, UpTook}
+use Rattle.model.specs.Logs.Event.{Client, ClientEnd, ClientTook, Up, UpEnd, UpFailed, UpTook, Drain}
 use Rattle.model.specs.Logs.Act.{Open, ToUp, Close, CloseClient}
 use Rattle.model.specs.Setup.{Passing}
 use Rattle.model.specs.Setup.Passing.{Whole, Streaming}
@@ -85,6 +85,7 @@ taken_more k t (Up j piece) = omega arith
 taken_more k t (UpEnd j) = omega arith
 taken_more k t (UpFailed j) = omega arith
 taken_more k t (UpTook j count) = more_taken (k == j) (taken k t) count
+taken_more k t Drain = omega arith
 
 module _ (t : List Entry) (id : ℕ) (settled : Bool) (h : IsHeldBack Streaming t settled id) where
   -- where the effect of the last frame is over
@@ -177,6 +178,7 @@ event_begins s (Up j piece) = refl
 event_begins s (UpEnd j) = refl
 event_begins s (UpFailed j) = refl
 event_begins s (UpTook j count) = refl
+event_begins s Drain = refl
 
 effect_ends : (b : Bool) (s : State) → (settle_by b s).settled ≡ true
 effect_ends true s = refl

@@ -2,7 +2,7 @@
 use Rattle.std.specs.Prelude.{◌≡◌, ℕ, ◌+◌, ◌<◌, Bool, true, false, not, ◌&&◌, ◌==◌, nat_le, if◌then◌else◌, List, [], ◌∷◌, length, pos}
 use Rattle.model.specs.Frames.{Frame, window_update_kind}
 use Rattle.model.specs.Logs.{Event, Act}
-use Rattle.model.specs.Logs.Event.{Client, ClientEnd, ClientTook, Up, UpEnd, UpFailed, UpTook}
+use Rattle.model.specs.Logs.Event.{Client, ClientEnd, ClientTook, Up, UpEnd, UpFailed, UpTook, Drain}
 use Rattle.model.specs.Logs.Act.{Open, ToUp}
 use Rattle.model.specs.Setup.{Passing, own_window}
 use Rattle.model.specs.Setup.Passing.{Streaming}
@@ -12,7 +12,7 @@ use Rattle.model.specs.Tapes.Entry.{Came, Sent}
 use Rattle.model.specs.Decoding.{completed}
 use Rattle.model.specs.Openings as openings
 use Rattle.model.specs.Openings.{exchanges, last_stream, begins_another}
-use Rattle.model.specs.Lifetimes.{opens_by, opened, active, is_active, is_ended_by_client}
+use Rattle.model.specs.Lifetimes.{opens_by, opened, active, is_active, is_ended_by_client, is_drained}
 use Rattle.model.specs.WindowsOnTape.{is_on, data_octets, increment, back_on}
 use Rattle.model.specs.Known.{Known}
 use Rattle.model.specs.WindowClause.{GivesBack, GivesNoMore, HoldsBack}
@@ -65,6 +65,7 @@ may_come gates s (Up k piece) = gates.is_up k && nat_le (length piece) (room_in 
 may_come gates s (UpEnd k) = gates.is_up k
 may_come gates s (UpFailed k) = gates.is_up k
 may_come gates s (UpTook k count) = gates.is_up k && nat_le (s.took k + count) (s.out k)
+may_come gates s Drain = true
 
 -- the event may come: once the client is closed none may
 abbrev pub admits : Gates → State → Event → Bool
@@ -85,7 +86,7 @@ IsOpened t noted false over = is_active noted.frame.id (Came noted ∷ t) ≡ (i
 -- the frame before is over.
 pub record MayTake (t : List Entry) (s : State) (noted : Noted) (news over : Bool) : Type 0 where
   pub settled : s.count ≡ 0
-  pub opens : opens_by (opened t) (completed (came t) noted.frame) noted.note ≡ news
+  pub opens : opens_by (is_drained t) (opened t) (completed (came t) noted.frame) noted.note ≡ news
   pub opened : IsOpened t noted news over
   pub was : over ≡ true → is_active noted.frame.id t ≡ true
 

@@ -8,7 +8,7 @@ use Rattle.std.proofs.lemmas.Bool.Decides.{eqb_tells}
 use Rattle.model.specs.Messages.{Item}
 use Rattle.model.specs.Messages.Item.{Block, Content}
 use Rattle.model.specs.Logs.{Event, Act}
-use Rattle.model.specs.Logs.Event.{Client, ClientEnd, ClientTook, Up, UpEnd, UpFailed, UpTook}
+use Rattle.model.specs.Logs.Event.{Client, ClientEnd, ClientTook, Up, UpEnd, UpFailed, UpTook, Drain}
 use Rattle.model.specs.ResponseHeads.{Head}
 use Rattle.model.specs.Deliveries.{Delivery, heads_in}
 use Rattle.model.specs.Tapes.{Noted, Breach, Entry, sent}
@@ -203,6 +203,7 @@ heard_same t (Up k piece) o other = sym (ap (λ b. if b then heard_by o t ++ pie
 heard_same t (UpEnd k) o other = refl
 heard_same t (UpFailed k) o other = refl
 heard_same t (UpTook k count) o other = refl
+heard_same t Drain o other = refl
 
 ended_same : (t : List Entry) (event : Event) (o : Opened) → IsBeside t event o → ended_by o t ≡ ended_by o (Happened event ∷ t)
 ended_same t (Client piece) o other = refl
@@ -212,6 +213,7 @@ ended_same t (Up k piece) o other = refl
 ended_same t (UpEnd k) o other = sym (ap (λ b. if b then true else ended_by o t) (beside o k (given k (exchanges t)) other))
 ended_same t (UpFailed k) o other = refl
 ended_same t (UpTook k count) o other = refl
+ended_same t Drain o other = refl
 
 -- What is shown of an answer before the event is shown behind it, where the request is of this stream.
 abbrev pub StaysShown : Known → List Entry → Event → Opened → ℕ → Type 0

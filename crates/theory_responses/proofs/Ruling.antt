@@ -16,7 +16,7 @@ use Rattle.model.specs.Known.{Known, fails_behind}
 use Rattle.model.specs.Causes.{Cause}
 use Rattle.model.specs.Causes.Cause.{BadAnswer}
 use Rattle.model.specs.ErrorTable.{fault_with}
-use Rattle.model.specs.Lifetimes.{opened, opens_by, is_opened, is_over, is_active, is_ended_by_client, is_ended_by_gateway, is_reset_by_client, is_reset_by_gateway}
+use Rattle.model.specs.Lifetimes.{opened, opens_by, is_opened, is_over, is_active, is_ended_by_client, is_ended_by_gateway, is_reset_by_client, is_reset_by_gateway, is_drained}
 use Rattle.model.specs.Courses.{course, carried, items, about, upstream_of, cause_of, interrupts, first_of_both}
 use Rattle.model.specs.Offers.{IsGiven}
 use Rattle.model.proofs.ExchangeLaws.{given_in}
@@ -81,7 +81,7 @@ module _ (t : List Entry) (noted : Noted) where
   u = Came noted ∷ t
 
   abbrev opens_it : Bool
-  opens_it = opens_by (opened t) (completed (came t) noted.frame) noted.note
+  opens_it = opens_by (is_drained t) (opened t) (completed (came t) noted.frame) noted.note
 
   -- a stream that isn't opened behind the frame wasn't before
   pub unopened_before : (id : ℕ) → is_opened id u ≡ false → is_opened id t ≡ false

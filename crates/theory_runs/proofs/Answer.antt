@@ -113,6 +113,7 @@ ledger_with row window untaken = record {
     own = 65535;
     window = pos window;
     room = pos 65535;
+    drained = false;
     rows = row ∷ [];
     resets = 0;
     given = record { k = 1; route = 0; stream = 1 } ∷ [];

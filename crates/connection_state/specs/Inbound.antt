@@ -24,6 +24,8 @@ pub record Inbound : Type 0 where
   -- the connection's windows, in which it sends and in which it receives
   pub window : ℤ
   pub room : ℤ
+  -- the operator asked for the connection's end
+  pub drained : Bool
   -- the streams that were opened
   pub rows : List Row
   -- how many active streams the client reset
@@ -49,6 +51,7 @@ book_of outside inbound = record {
   own = inbound.own;
   window = inbound.window;
   room = inbound.room;
+  drained = inbound.drained;
   rows = inbound.rows;
   resets = inbound.resets;
   given = outside.given;

@@ -298,7 +298,7 @@ fn judge_block(
         → Settles setup streams.old id fields ends streams.new answer) }
     ensures kept { AreKept streams.new }
 {
-    if let Some(fault) = fault_of(streams.verdict(id, Kind::Headers)) {
+    if let Some(fault) = fault_of(streams.verdict(false, id, Kind::Headers)) {
         return refuse(streams, id, fault);
     }
     let before = kept_before(streams, id);
@@ -324,7 +324,7 @@ fn is_last(streams: &StreamTable, id: u32) -> bool
     if streams.count() != ALL_BUT_ONE {
         return false;
     }
-    if fault_of(streams.verdict(id, Kind::Headers)).is_some() {
+    if fault_of(streams.verdict(false, id, Kind::Headers)).is_some() {
         return false;
     }
     streams.find(id).is_none()

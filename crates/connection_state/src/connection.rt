@@ -60,6 +60,7 @@ pub struct Connection {
     pub(crate) window: Window,
     pub(crate) own: u32,
     pub(crate) room: Window,
+    pub(crate) drained: bool,
     pub(crate) streams: StreamTable,
     pub(crate) resets: u32,
     pub(crate) last: u32,
@@ -80,6 +81,7 @@ impl Model for Connection {
       own = c.own;
       window = c.window;
       room = c.room;
+      drained = c.drained;
       rows = c.streams;
       resets = c.resets;
       last = c.last;
@@ -105,6 +107,7 @@ impl Connection {
             window: Window::new(FIRST_WINDOW),
             own: FIRST_WINDOW + more_room,
             room: Window::new(FIRST_WINDOW),
+            drained: false,
             streams: StreamTable::new(alloc),
             resets: 0,
             last: 0,
@@ -134,10 +137,10 @@ impl Connection {
     /// What comes of a type of frame on an id by the state of its stream (RFC 9113, section 5.1).
     /// Where the answer is `Open`, the stream may be opened.
     pub fn verdict(&self, id: u32, kind: Kind) -> Verdict
-        ensures is { verdict_in result ≡ verdict self.now.rows id (kind_in kind) }
+        ensures is { verdict_in result ≡ verdict self.now.drained self.now.rows id (kind_in kind) }
         ensures allows { AllowsOpening result self.now.rows id }
     {
-        self.streams.verdict(id, kind)
+        self.streams.verdict(self.drained, id, kind)
     }
 
     /// What a frame says, if nothing is wrong with it by itself and by the header block that is
@@ -300,7 +303,7 @@ impl Connection {
             → IsJudged setup (book_of outside self.old) (frame_of view.entry) (book_of outside self.new) result }
         ensures table { self.new.table ≡ self.old.table }
     {
-        if let Some(fault) = fault_of(self.streams.verdict(view.id, Kind::RstStream)) {
+        if let Some(fault) = fault_of(self.verdict(view.id, Kind::RstStream)) {
             return self.pass_over(view, fault);
         }
         if self.resets >= MOST_RESETS {
@@ -322,7 +325,7 @@ impl Connection {
             → IsJudged setup (book_of outside self.old) (frame_of view.entry) (book_of outside self.new) result }
         ensures table { self.new.table ≡ self.old.table }
     {
-        if let Some(fault) = fault_of(self.streams.verdict(view.id, Kind::WindowUpdate)) {
+        if let Some(fault) = fault_of(self.verdict(view.id, Kind::WindowUpdate)) {
             return self.pass_over(view, fault);
         }
         if let Some(code) = update_code(&self.streams, &self.settings, view.id, increment) {
@@ -345,8 +348,8 @@ impl Connection {
         ensures refused { IfSome result (λ fault. IsRefused self.now (frame_of view.entry) (fault_told fault)) }
         ensures admitted { IfNone result (IsAdmitted self.now (frame_of view.entry)) }
     {
-        let fault = fault_of(self.streams.verdict(view.id, Kind::Data));
-        if self.streams.standing(view.id).is_idle() {
+        let fault = fault_of(self.verdict(view.id, Kind::Data));
+        if self.streams.standing(self.drained, view.id).is_idle() {
             return fault;
         }
         if is_past_room(&self.room, view.payload.len() as u32) {

@@ -110,6 +110,9 @@ impl Connection {
         };
         self.has_come = true;
         self.last = view.id;
+        if self.is_beyond(view.id) {
+            return Ok(BlockJudged::Failed(FrameError::Discarded));
+        }
         settle(
             self.alloc,
             &mut self.streams,

@@ -35,7 +35,7 @@ use connection_state::{Connection, Terms};
 use effects::{Event, Output, Outputs};
 use event_handlers::paying::greet;
 use event_handlers::{
-    Breach, Onward, ServiceTerms, client_took, end, fail, hear, leave, leave_at, up_took,
+    Breach, Onward, ServiceTerms, client_took, drain, end, fail, hear, leave, leave_at, up_took,
 };
 use header_blocks::Encoder;
 use local_replies::RoutePattern;
@@ -110,7 +110,8 @@ fn is_failure(event: &Event) -> bool
         | Event::ClientTook(_)
         | Event::Up(_, _)
         | Event::UpEnd(_)
-        | Event::UpTook(_, _) => false,
+        | Event::UpTook(_, _)
+        | Event::Drain => false,
     }
 }
 
@@ -285,7 +286,8 @@ impl Gateway {
     /// Whether an event may come now: never once the client is closed or memory was refused; octets
     /// of the client at most 65,536 at a time, and while at most 1,073,741,824 octets for it aren't
     /// taken; octets of an upstream, at most as many as it has room for, while its connection is
-    /// open; of octets only those as taken that were put out and aren't yet.
+    /// open; of octets only those as taken that were put out and aren't yet. That the connection is
+    /// to be drained may come again.
     pub fn admits(&self, event: &Event) -> bool
         ensures state { result ≡ admits self.now (event_of event.now) }
         // It is what the log tells that the gateway stands for.
@@ -308,6 +310,7 @@ impl Gateway {
             Event::Up(k, piece) => self.fits(*k, piece.len()),
             Event::UpEnd(k) | Event::UpFailed(k) => self.is_up(*k),
             Event::UpTook(k, count) => self.may_take(*k, *count),
+            Event::Drain => true,
         }
     }
 
@@ -524,6 +527,7 @@ impl Gateway {
             Event::UpEnd(k) => end(alloc, session, *k, out),
             Event::UpFailed(k) => fail(alloc, session, *k, out),
             Event::UpTook(k, count) => up_took(alloc, session, *k, *count, out),
+            Event::Drain => drain(alloc, session, out),
         }
     }
 

@@ -390,6 +390,7 @@ fn show(text: &mut String, event: &Event) -> Result<(), AllocError> {
         Event::UpEnd(k) => show_number(text, "UE", u64::from(*k)),
         Event::UpFailed(k) => show_number(text, "UF", u64::from(*k)),
         Event::UpTook(k, count) => write!(text, "UT {k} {count};"),
+        Event::Drain => text.push_str("D;"),
     }
 }
 

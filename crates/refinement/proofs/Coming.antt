@@ -80,6 +80,7 @@ inbound_in table book = record {
   own = book.own;
   window = book.window;
   room = book.room;
+  drained = book.drained;
   rows = book.rows;
   resets = book.resets;
   last = book.last;

@@ -5,7 +5,7 @@ use Rattle.std.specs.Prelude.{nat_lt, is_some, is_none}
 use Rattle.model.specs.Frames.{Frame, goaway, no_error, internal_error}
 use Rattle.model.specs.Setup.{Setup}
 use Rattle.model.specs.Logs.{Event, Act}
-use Rattle.model.specs.Logs.Event.{Client, ClientEnd, ClientTook, Up, UpEnd, UpFailed, UpTook}
+use Rattle.model.specs.Logs.Event.{Client, ClientEnd, ClientTook, Up, UpEnd, UpFailed, UpTook, Drain}
 use Rattle.model.specs.Logs.Act.{Open, ToUp, Close, CloseClient}
 use Rattle.model.specs.Tapes.{Noted}
 use Rattle.model.specs.Tapes.Entry.{Happened, Sent, Did}
@@ -100,6 +100,7 @@ heard_lead setup b (UpTook k count) kept is = record { book = ap (λ (rows : Lis
 heard_lead setup b (Client piece) kept is = absurd (let no : false ≡ true = is in cc)
 heard_lead setup b ClientEnd kept is = absurd (let no : false ≡ true = is in cc)
 heard_lead setup b (ClientTook count) kept is = absurd (let no : false ≡ true = is in cc)
+heard_lead setup b Drain kept is = absurd (let no : false ≡ true = is in cc)
 
 pub took_leads : (setup : Setup) (b : Book) (count : ℕ) → AreKept b.rows → LeadsTo setup false b (Happened (ClientTook count)) (record b { ends = false; untaken = b.untaken - count }) []
 took_leads setup b count kept = record {
@@ -166,6 +167,7 @@ module _ (setup : Setup) (b : Book) (event : Event) (kept : AreKept b.rows) (of_
       cases (Client piece) some are = absurd (let no : true ≡ false = some in cc)
       cases ClientEnd some are = absurd (let no : true ≡ false = some in cc)
       cases (ClientTook count) some are = absurd (let no : true ≡ false = some in cc)
+      cases Drain some are = absurd (let no : true ≡ false = some in cc)
 
 pub fails_lead : (setup : Setup) (b : Book) (event : Event) (id : ℕ) → AreKept b.rows → (upstream_of event == 0) ≡ false → given (upstream_of event) b.given ≡ id → (id == 0) ≡ false → LeadsTo setup true b (Happened event) (behind_failure b id) (reset_if_out b id)
 fails_lead setup b event id kept some same of_stream =

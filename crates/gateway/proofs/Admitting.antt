@@ -3,7 +3,7 @@ use Rattle.std.proofs.Common.{◌≡◌, ℕ, true, false, Bool, not, ◌&&◌, 
 use Rattle.std.specs.Prelude.{is_some, option_map}
 use Rattle.std.proofs.lemmas.Bool.{and_parts}
 use Rattle.model.specs.Logs.{Event, Step, client_in}
-use Rattle.model.specs.Logs.Event.{Client, ClientEnd, ClientTook, Up, UpEnd, UpFailed, UpTook}
+use Rattle.model.specs.Logs.Event.{Client, ClientEnd, ClientTook, Up, UpEnd, UpFailed, UpTook, Drain}
 use Rattle.model.specs.Setup.{Setup, Passing}
 use Rattle.model.specs.Setup.Passing.{Whole, Streaming}
 use Rattle.model.specs.Tapes.{Entry, is_closed}
@@ -110,6 +110,7 @@ module _ (setup : Setup) (run : List Move) (kept : View) (pending : Pending) (s 
   are_held (UpEnd k) = tt
   are_held (UpFailed k) = tt
   are_held (UpTook k count) = tt
+  are_held Drain = tt
 
   open_admits : (event : Event) → admits_kept kept event ≡ true → IsAdmitted known (tape_of run) event
   open_admits event may = admitted_by_kept setup run kept pending s leads known event (are_held event) may

@@ -2,7 +2,7 @@
 use Rattle.std.proofs.Common.{◌≡◌, ℕ, true, false, Bool, List, [], ◌∷◌, ◌++◌, reverse, map, refl, sym, ◌∙◌, ap, subst, append-nil, if◌then◌else◌, Option, Some, None, inl, inr}
 use Rattle.std.specs.Prelude.{◌⊎◌, OnOk, Result, Ok, Err}
 use Rattle.model.specs.Logs.{Event, Output, Step, client_in, client_octets}
-use Rattle.model.specs.Logs.Event.{Client, ClientEnd, ClientTook, Up, UpEnd, UpFailed, UpTook}
+use Rattle.model.specs.Logs.Event.{Client, ClientEnd, ClientTook, Up, UpEnd, UpFailed, UpTook, Drain}
 use Rattle.model.specs.Octets.{IsStrictFront}
 use Rattle.model.specs.Frames.{preface, settings_frame}
 use Rattle.model.specs.Setup.{Setup}
@@ -139,6 +139,7 @@ no_octets (Up k piece) e = refl
 no_octets (UpEnd k) e = refl
 no_octets (UpFailed k) e = refl
 no_octets (UpTook k count) e = refl
+no_octets Drain e = refl
 
 -- it goes on being open
 stays_open : (p : Phase) → is_open p ≡ true → is_open (greeted p) ≡ true
@@ -347,3 +348,4 @@ stands_next setup old mid p log run stands greets goes (Up k piece) admitted hap
 stands_next setup old mid p log run stands greets goes (UpEnd k) admitted hap q terms went settled h = hears_next setup old mid p log run stands greets goes (UpEnd k) admitted hap q terms went settled refl h
 stands_next setup old mid p log run stands greets goes (UpFailed k) admitted hap q terms went settled h = hears_next setup old mid p log run stands greets goes (UpFailed k) admitted hap q terms went settled refl h
 stands_next setup old mid p log run stands greets goes (UpTook k count) admitted hap q terms went settled h = hears_next setup old mid p log run stands greets goes (UpTook k count) admitted hap q terms went settled refl h
+stands_next setup old mid p log run stands greets goes Drain admitted hap q terms went settled h = hears_next setup old mid p log run stands greets goes Drain admitted hap q terms went settled refl h

@@ -1,7 +1,7 @@
 -- What a piece of the client's octets comes to, and that the gateway's settings go out once.
 use Rattle.std.proofs.Common.{◌≡◌, Bool, true, false, ◌==◌, ℕ, List, [], ◌∷◌, ◌++◌, ◌-◌, ◌≤◌, length, take, drop, refl, sym, ◌∙◌, ap, subst, inl, inr, arith, Option, Some, None}
 use Rattle.model.specs.Logs.{Event, Output}
-use Rattle.model.specs.Logs.Event.{Client, ClientEnd, ClientTook, Up, UpEnd, UpFailed, UpTook}
+use Rattle.model.specs.Logs.Event.{Client, ClientEnd, ClientTook, Up, UpEnd, UpFailed, UpTook, Drain}
 use Rattle.model.specs.Setup.{Setup}
 use Rattle.model.specs.Tapes.{listed}
 use Rattle.model.specs.Frames.{Frame}
@@ -108,6 +108,7 @@ hears_by old kept went o p event told same others comes = subst (Happens old (re
     by (UpEnd k) others comes = record { comes = comes; stays = refl }
     by (UpFailed k) others comes = record { comes = comes; stays = refl }
     by (UpTook k count) others comes = record { comes = comes; stays = refl }
+    by Drain others comes = record { comes = comes; stays = refl }
 
 -- ---- what is read
 

@@ -9,7 +9,7 @@ use Rattle.model.specs.Admission as admission
 use Rattle.model.specs.Known.{Known}
 use Rattle.model.specs.Frames.{spell}
 use Rattle.model.specs.Logs.{Event, Output, Step, client_in}
-use Rattle.model.specs.Logs.Event.{Client, ClientEnd, ClientTook, Up, UpEnd, UpFailed, UpTook}
+use Rattle.model.specs.Logs.Event.{Client, ClientEnd, ClientTook, Up, UpEnd, UpFailed, UpTook, Drain}
 use Rattle.model.specs.Logs.Output.{ToClient, Does}
 use Rattle.model.specs.Logs.Act.{Open, ToUp, Close, CloseClient}
 use Rattle.model.specs.Rooms.{IsRoom}
@@ -212,6 +212,7 @@ no_fault (Up j piece) calm = refl
 no_fault (UpEnd j) calm = refl
 no_fault (UpFailed j) calm = absurd (let no : true ≡ false = calm in cc)
 no_fault (UpTook j count) calm = refl
+no_fault Drain calm = refl
 
 stays_open : (segment t : List Entry) → list_any turns (outputs segment) ≡ false → list_any fails (happened segment) ≡ false → (k : ℕ) → admission.is_open k (segment ++ t) ≡ admission.is_open k t
 stays_open [] t still calm k = refl
@@ -229,6 +230,7 @@ stays_open (Happened (Up j piece) ∷ segment) t still calm k = stays_open segme
 stays_open (Happened (UpEnd j) ∷ segment) t still calm k = stays_open segment t still calm k
 stays_open (Happened (UpFailed j) ∷ segment) t still calm k = absurd (let no : true ≡ false = calm in cc)
 stays_open (Happened (UpTook j count) ∷ segment) t still calm k = stays_open segment t still calm k
+stays_open (Happened Drain ∷ segment) t still calm k = stays_open segment t still calm k
 
 -- each of these rooms is still the one that is told
 same_rooms : (known known' : Known) (t t' : List Entry) → ((k : ℕ) → admission.is_open k t' ≡ admission.is_open k t) → (rooms : List (ℕ × ℕ))

@@ -4,7 +4,7 @@ use Rattle.std.proofs.Common.{◌≡◌, ℕ, ◌<◌, Bool, true, false, not, �
 use Rattle.std.specs.Prelude.{nat_lt}
 use Rattle.std.specs.List.{list_any, list_all}
 use Rattle.std.proofs.lemmas.Bool.{and_parts, ltb-true, eqb-true, eq-eqb, ne_eqb}
-use Rattle.model.specs.Logs.Event.{Client, ClientEnd, ClientTook, Up, UpEnd, UpFailed, UpTook}
+use Rattle.model.specs.Logs.Event.{Client, ClientEnd, ClientTook, Up, UpEnd, UpFailed, UpTook, Drain}
 use Rattle.model.specs.Logs.Act.{Open, ToUp, Close, CloseClient}
 use Rattle.model.specs.Messages.{Item}
 use Rattle.model.specs.Messages.Item.{Block}
@@ -281,6 +281,7 @@ module _ (known : Known) (streaming : known.setup.passing ≡ Streaming) (run : 
   done (Fails (Up k piece) stream heard) knows answered allowed on was = none_newest _ r.due allowed.1.request.may.0.nothing
   done (Fails (UpEnd k) stream heard) knows answered allowed on was = none_newest _ r.due allowed.1.request.may.0.nothing
   done (Fails (UpTook k count) stream heard) knows answered allowed on was = none_newest _ r.due allowed.1.request.may.0.nothing
+  done (Fails Drain stream heard) knows answered allowed on was = none_newest _ r.due allowed.1.request.may.0.nothing
   done (Idles (Client piece)) knows answered allowed on was = none_newest _ r.due allowed.1.request.may.0.nothing
   done (Idles ClientEnd) knows answered allowed on was = none_newest _ r.due allowed.1.request.may.0.nothing
   done (Idles (ClientTook count)) knows answered allowed on was = none_newest _ r.due allowed.1.request.may.0.nothing
@@ -289,6 +290,7 @@ module _ (known : Known) (streaming : known.setup.passing ≡ Streaming) (run : 
   done (Idles (UpEnd k)) knows answered allowed on was = none_newest _ r.due allowed.1.request.may.0.nothing
   done (Idles (UpFailed k)) knows answered allowed on was = none_newest _ r.due allowed.1.request.may.0.nothing
   done (Idles (UpTook k count)) knows answered allowed on was = none_newest _ r.due allowed.1.request.may.0.nothing
+  done (Idles Drain) knows answered allowed on was = none_newest _ r.due allowed.1.request.may.0.nothing
   done (Sends noted next) knows answered allowed on was = still_newest noted r.due was
   done (Goes noted item part next) knows answered allowed on was = still_newest noted r.due was
   done (Acts (Open k route)) knows answered allowed on was = let may = allowed.1.request.may in subst (λ (due : Due). DueNewest (book_behind (Acts (Open k route))).rows (theory_requests.due_opened due k)) (sym may.due) tt

@@ -43,7 +43,7 @@ module _ (setup : Setup) (b : Book) (frame : Frame) (fields : List Field) (of : 
 
   -- the fault by its stream's standing
   abbrev by_standing : Option Fault
-  by_standing = fault_of (asked.verdict b.rows frame.id 1)
+  by_standing = fault_of (asked.verdict b.drained b.rows frame.id 1)
 
   -- where it opens the last stream, and its GOAWAY can't go out
   abbrev late : Option Fault

@@ -118,7 +118,7 @@ module _ (b : Book) (flags id : ℕ) (payload : List ℕ) (of_stream : (id == 0)
   kept = find b.rows id
 
   abbrev standing_fault : Option Fault
-  standing_fault = by_standing b.rows id of_stream
+  standing_fault = by_standing b.drained b.rows id of_stream
 
   -- it goes past the windows, of the connection and of its stream
   abbrev past : Bool
@@ -139,14 +139,14 @@ module _ (b : Book) (flags id : ℕ) (payload : List ℕ) (of_stream : (id == 0)
       ∷ o
       ∷ []
 
-  data_rows : first_of (later_rows s frame) ≡ first_of (rows_from (is_idle (standing b.rows id)) past standing_fault (is_active b.rows id && past_own))
+  data_rows : first_of (later_rows s frame) ≡ first_of (rows_from (is_idle (standing b.drained b.rows id)) past standing_fault (is_active b.rows id && past_own))
   data_rows =
-      ap (λ x. first_of (first_of (fault_if (x && (false && increment frame == 0)) (Connection protocol_error) ∷ fault_if (x && (false && is_past (b.window +ℤ pos (increment frame)))) (Connection flow_control_error) ∷ []) ∷ (if is_idle (standing b.rows id) && true then standing_fault else None) ∷ None ∷ fault_if past (Connection flow_control_error) ∷ None ∷ unless_of_stream standing_fault
+      ap (λ x. first_of (first_of (fault_if (x && (false && increment frame == 0)) (Connection protocol_error) ∷ fault_if (x && (false && is_past (b.window +ℤ pos (increment frame)))) (Connection flow_control_error) ∷ []) ∷ (if is_idle (standing b.drained b.rows id) && true then standing_fault else None) ∷ None ∷ fault_if past (Connection flow_control_error) ∷ None ∷ unless_of_stream standing_fault
       ∷ first_of (fault_if (is_active b.rows id && false) (Stream protocol_error) ∷ fault_if (is_active b.rows id && false) (Stream flow_control_error) ∷ []) ∷ fault_if (is_active b.rows id && past_own) (Stream flow_control_error) ∷ standing_fault ∷ no_goaway_in s (noted_of frame) ∷ [])) of_stream
-      ∙ ap (λ (n : Option Fault). first_of ((if is_idle (standing b.rows id) && true then standing_fault else None) ∷ None ∷ fault_if past (Connection flow_control_error) ∷ None ∷ unless_of_stream standing_fault
+      ∙ ap (λ (n : Option Fault). first_of ((if is_idle (standing b.drained b.rows id) && true then standing_fault else None) ∷ None ∷ fault_if past (Connection flow_control_error) ∷ None ∷ unless_of_stream standing_fault
       ∷ first_of (fault_if (is_active b.rows id && false) (Stream protocol_error) ∷ fault_if (is_active b.rows id && false) (Stream flow_control_error) ∷ []) ∷ fault_if (is_active b.rows id && past_own) (Stream flow_control_error) ∷ standing_fault ∷ n ∷ [])) (opens_no_last s frame)
-      ∙ slim (if is_idle (standing b.rows id) && true then standing_fault else None) (fault_if past (Connection flow_control_error)) (unless_of_stream standing_fault) (first_of (fault_if (is_active b.rows id && false) (Stream protocol_error) ∷ fault_if (is_active b.rows id && false) (Stream flow_control_error) ∷ [])) (fault_if (is_active b.rows id && past_own) (Stream flow_control_error)) standing_fault
-      ∙ ap (λ x. first_of ((if is_idle (standing b.rows id) && true then standing_fault else None) ∷ fault_if past (Connection flow_control_error) ∷ None ∷ unless_of_stream standing_fault
+      ∙ slim (if is_idle (standing b.drained b.rows id) && true then standing_fault else None) (fault_if past (Connection flow_control_error)) (unless_of_stream standing_fault) (first_of (fault_if (is_active b.rows id && false) (Stream protocol_error) ∷ fault_if (is_active b.rows id && false) (Stream flow_control_error) ∷ [])) (fault_if (is_active b.rows id && past_own) (Stream flow_control_error)) standing_fault
+      ∙ ap (λ x. first_of ((if is_idle (standing b.drained b.rows id) && true then standing_fault else None) ∷ fault_if past (Connection flow_control_error) ∷ None ∷ unless_of_stream standing_fault
       ∷ first_of (fault_if x (Stream protocol_error) ∷ fault_if x (Stream flow_control_error) ∷ []) ∷ fault_if (is_active b.rows id && past_own) (Stream flow_control_error) ∷ standing_fault ∷ [])) (and_right (is_active b.rows id) false refl)
     where
       slim : (i p u w d o : Option Fault) → first_of (i ∷ None ∷ p ∷ None ∷ u ∷ w ∷ d ∷ o ∷ None ∷ []) ≡ first_of (i ∷ p ∷ None ∷ u ∷ w ∷ d ∷ o ∷ [])
@@ -166,11 +166,11 @@ module _ (b : Book) (flags id : ℕ) (payload : List ℕ) (of_stream : (id == 0)
   abbrev fault_from : Bool → Bool → Option Fault → Bool → Option Fault
   fault_from idle past o past_own = or_else (first_of (rows_from idle past o past_own)) (fault_if bad_body (Stream protocol_error))
 
-  data_fault : fault_in s (coming frame) ≡ fault_from (is_idle (standing b.rows id)) past standing_fault (is_active b.rows id && past_own)
+  data_fault : fault_in s (coming frame) ≡ fault_from (is_idle (standing b.drained b.rows id)) past standing_fault (is_active b.rows id && past_own)
   data_fault = fault_later s frame sound kept.outline ∙ ap (λ (o : Option Fault). or_else o (fault_if bad_body (Stream protocol_error))) data_rows
 
   -- on an idle stream
-  pub data_idle : is_idle (standing b.rows id) ≡ true → fault_in s (coming frame) ≡ standing_fault
+  pub data_idle : is_idle (standing b.drained b.rows id) ≡ true → fault_in s (coming frame) ≡ standing_fault
   data_idle idle =
       let f = idle_refuses b.rows id of_stream idle in
       data_fault
@@ -178,7 +178,7 @@ module _ (b : Book) (flags id : ℕ) (payload : List ℕ) (of_stream : (id == 0)
       ∙ ap (λ (o : Option Fault). fault_from true past o (is_active b.rows id && past_own)) f.1
       ∙ sym f.1
 
-  module _ (known : is_idle (standing b.rows id) ≡ false) where
+  module _ (known : is_idle (standing b.drained b.rows id) ≡ false) where
     -- over the connection's window
     pub data_past : past ≡ true → fault_in s (coming frame) ≡ Some (Connection flow_control_error)
     data_past is =

@@ -134,7 +134,7 @@ module _ (s : Summary) (noted : Noted) (of : IsFragment noted.frame) where
     -- It opens no stream then.
     opens_none : completed_in s.block frame ≡ None → no_goaway_in s noted ≡ None
     opens_none none =
-        ap (λ (o : Option Partial). fault_if (are_last s (if opens_by s.opened o noted.note then frame.id ∷ s.opened else s.opened) && is_crowded_in s) (Stream enhance_your_calm)) none
+        ap (λ (o : Option Partial). fault_if (are_last s s.drained (if opens_by s.drained s.opened o noted.note then frame.id ∷ s.opened else s.opened) && is_crowded_in s) (Stream enhance_your_calm)) none
         ∙ ap (λ b. fault_if (b && is_crowded_in s) (Stream enhance_your_calm)) (neither (length s.opened) most_streams)
 
     -- One with which the block goes on has none.

@@ -156,7 +156,7 @@ not_crowded rows id fields ends =
     ap (λ x. or_else (fault_of (verdict rows id 1)) (or_else (fault_if x (Stream 11)) (fault_if (is_malformed_behind (find rows id).outline fields ends) (Stream protocol_error)))) (and_right (opens_last rows id) false refl)
 
 -- which one is the last, by how many were opened
-pub last_is : (rows : List Row) (id n : ℕ) (may : Bool) → n ≡ length rows → may_open (ids_of rows) id ≡ may → opens_last rows id ≡ (nat_lt n most_streams && (if may then suc n else n) == most_streams)
+pub last_is : (rows : List Row) (id n : ℕ) (may : Bool) → n ≡ length rows → may_open false (ids_of rows) id ≡ may → opens_last rows id ≡ (nat_lt n most_streams && (if may then suc n else n) == most_streams)
 last_is rows id n may count is =
     let same : length (ids_of rows) ≡ n = length-map rows (λ (row : Row). row.id) ∙ sym count in
     ap (λ x. nat_lt (length (ids_of rows)) most_streams && length (if x then id ∷ ids_of rows else ids_of rows) == most_streams) is

@@ -104,16 +104,16 @@ wanted_by rows id a of_stream is allows soft kept = elim (cases_Bool (has rows i
 -- ---- where a stream is placed
 
 -- an active one may not be opened
-pub active_closed : (rows : List Row) (id : ℕ) → is_active rows id ≡ true → may_open false (ids_of rows) id ≡ false
-active_closed rows id active = elim (cases_Bool (may_open false (ids_of rows) id)) [
+pub active_closed : (drained : Bool) (rows : List Row) (id : ℕ) → is_active rows id ≡ true → may_open drained (ids_of rows) id ≡ false
+active_closed drained rows id active = elim (cases_Bool (may_open drained (ids_of rows) id)) [
   | inl may ↦
       let there = and_parts (has rows id) (not (is_over_in (find rows id))) active in
-      absurd (let no : true ≡ false = sym there.0 ∙ not_opened (ids_of rows) id may in cc)
+      absurd (let no : true ≡ false = sym there.0 ∙ not_opened drained (ids_of rows) id may in cc)
   | inr none ↦ none
 ]
 
 pub placed_active : (rows : List Row) (id : ℕ) (slot : Slot) → is_active rows id ≡ true → placed rows id slot ≡ changed id slot rows
-placed_active rows id slot active = ap (λ x. if x then record { id = id; slot = slot } ∷ rows else changed id slot rows) (active_closed rows id active)
+placed_active rows id slot active = ap (λ x. if x then record { id = id; slot = slot } ∷ rows else changed id slot rows) (active_closed false rows id active)
 
 pub placed_idle : (rows : List Row) (id : ℕ) (slot : Slot) → may_open false (ids_of rows) id ≡ true → placed rows id slot ≡ record { id = id; slot = slot } ∷ rows
 placed_idle rows id slot may = ap (λ x. if x then record { id = id; slot = slot } ∷ rows else changed id slot rows) may
@@ -128,7 +128,7 @@ active_of rows id there on = and_from (has rows id) (not (is_over_in (find rows 
 
 -- it has no row, so nothing is known of it
 pub nothing_known : (rows : List Row) (id : ℕ) → may_open false (ids_of rows) id ≡ true → find rows id ≡ fresh
-nothing_known rows id may = find_none rows id (not_opened (ids_of rows) id may)
+nothing_known rows id may = find_none rows id (not_opened false (ids_of rows) id may)
 
 -- and is opened as `open` asks
 pub may_be_opened : (rows : List Row) (id : ℕ) → may_open false (ids_of rows) id ≡ true → MayOpen rows id
@@ -136,7 +136,7 @@ may_be_opened rows id may =
     let parts = and_parts (id % 2 == 1 && list_all (λ other. nat_lt other id) (ids_of rows)) (nat_lt (length (ids_of rows)) most_streams) may in
     let both = and_parts (id % 2 == 1) (list_all (λ other. nat_lt other id) (ids_of rows)) parts.0 in
     record {
-      of_stream = not_zero (ids_of rows) id may;
+      of_stream = not_zero false (ids_of rows) id may;
       above = both.1;
       few = subst (λ n. n < most_streams) (length-map rows (λ (row : Row). row.id)) (ltb-true (length (ids_of rows)) most_streams parts.1);
     }
@@ -157,7 +157,7 @@ opened_so outline ends =
 pub front_changed : (rows : List Row) (id : ℕ) (old new : Slot) → may_open false (ids_of rows) id ≡ true → changed id new (record { id = id; slot = old } ∷ rows) ≡ record { id = id; slot = new } ∷ rows
 front_changed rows id old new may =
     ap (λ x. (if x then record { id = id; slot = new } else record { id = id; slot = old }) ∷ changed id new rows) (eq-eqb id id refl)
-    ∙ ap (λ (rs : List Row). record { id = id; slot = new } ∷ rs) (none_changed rows (not_opened (ids_of rows) id may))
+    ∙ ap (λ (rs : List Row). record { id = id; slot = new } ∷ rs) (none_changed rows (not_opened false (ids_of rows) id may))
   where
     none_changed : (rs : List Row) → has rs id ≡ false → changed id new rs ≡ rs
     none_changed [] none = refl

@@ -30,7 +30,7 @@ pub by_code : (i : Inbound) (flags id : ℕ) (payload : List ℕ) (of_stream : (
     → option_map Stream code ≡ first_of (fault_if (int_lt (room_in own live) (pos (length payload))) (Stream flow_control_error) ∷ fault_if live.ended_by_client (Stream stream_closed) ∷ fault_if (is_malformed_with (content (data_frame flags id payload)) ends live.outline) (Stream protocol_error) ∷ [])
     → (outside : Outside) → fault_in (told_of outside i) (coming (data_frame flags id payload)) ≡ option_map Stream code
 by_code i flags id payload of_stream sound admitted live found ends told own same code is outside =
-    data_active (book_of outside i) flags id payload of_stream (sound outside) (active_known i.rows id of_stream admitted.active) admitted.fits admitted.active
+    data_active (book_of outside i) flags id payload of_stream (sound outside) (active_known i.drained i.rows id of_stream admitted.active) admitted.fits admitted.active
     ∙ ap (λ (k : Kept). by_rows i.own k (ends_stream (data_frame flags id payload))) found
     ∙ ap (λ x. by_rows i.own live x) (sym told)
     ∙ ap (λ n. by_rows n live ends) same

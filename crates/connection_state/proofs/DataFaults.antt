@@ -73,13 +73,13 @@ back_false : (x : Bool) → not x ≡ true → x ≡ false
 back_false true is = absurd (let no : false ≡ true = is in cc)
 back_false false is = refl
 
-module _ (rows : List Row) (id : ℕ) (of_stream : (id == 0) ≡ false) where
+module _ (drained : Bool) (rows : List Row) (id : ℕ) (of_stream : (id == 0) ≡ false) where
   -- its fault by its stream's standing
   abbrev pub by_standing : Option Fault
-  by_standing = fault_of (asked.verdict rows id 0)
+  by_standing = fault_of (asked.verdict drained rows id 0)
 
-  pub idle_refuses : is_idle (standing rows id) ≡ true → (code : ℕ) × (by_standing ≡ Some (Connection code))
-  idle_refuses = idle_data (length (active_in rows)) (standing rows id)
+  pub idle_refuses : is_idle (standing drained rows id) ≡ true → (code : ℕ) × (by_standing ≡ Some (Connection code))
+  idle_refuses = idle_data (length (active_in rows)) (standing drained rows id)
 
   pub inactive_refuses : is_active rows id ≡ false → IsHard by_standing
   inactive_refuses idle = elim (cases_Bool (has rows id)) [
@@ -87,21 +87,21 @@ module _ (rows : List Row) (id : ℕ) (of_stream : (id == 0) ≡ false) where
         let k : Kept = find rows id in
         let over : is_over_in k ≡ true = back_true (is_over_in k) (sym (ap (λ x. x && not (is_over_in k)) there) ∙ idle) in
         let h = over_hard k.ended_by_client k.ended_by_gateway k.reset_by_client k.reset_by_gateway over in
-        (h.0, ap (λ (st : Standing). fault_of (verdict (length (active_in rows)) st 0)) (opened_standing rows id of_stream there) ∙ h.1, h.2)
+        (h.0, ap (λ (st : Standing). fault_of (verdict (length (active_in rows)) st 0)) (opened_standing drained rows id of_stream there) ∙ h.1, h.2)
     | inr none ↦
-        let h = unopened_hard (length (active_in rows)) (is_above id (opened_in rows)) (length (opened_in rows) == most_streams) (id % 2 == 0) in
-        (h.0, ap (λ (st : Standing). fault_of (verdict (length (active_in rows)) st 0)) (other_standing rows id of_stream none) ∙ h.1, h.2)
+        let h = unopened_hard (length (active_in rows)) (is_above id (opened_in rows)) (drained || length (opened_in rows) == most_streams) (id % 2 == 0) in
+        (h.0, ap (λ (st : Standing). fault_of (verdict (length (active_in rows)) st 0)) (other_standing drained rows id of_stream none) ∙ h.1, h.2)
   ]
 
   module _ (active : is_active rows id ≡ true) where
-    pub active_known : is_idle (standing rows id) ≡ false
-    active_known = ap is_idle (opened_standing rows id of_stream (and_parts (has rows id) (not (is_over_in (find rows id))) active).0)
+    pub active_known : is_idle (standing drained rows id) ≡ false
+    active_known = ap is_idle (opened_standing drained rows id of_stream (and_parts (has rows id) (not (is_over_in (find rows id))) active).0)
 
     pub active_by_client : by_standing ≡ fault_if (find rows id).ended_by_client (Stream stream_closed)
     active_by_client =
         let k : Kept = find rows id in
         let parts = and_parts (has rows id) (not (is_over_in k)) active in
-        ap (λ (st : Standing). fault_of (verdict (length (active_in rows)) st 0)) (opened_standing rows id of_stream parts.0)
+        ap (λ (st : Standing). fault_of (verdict (length (active_in rows)) st 0)) (opened_standing drained rows id of_stream parts.0)
         ∙ active_data k.ended_by_client k.ended_by_gateway k.reset_by_client k.reset_by_gateway (back_false (is_over_in k) parts.1)
 
 -- ---- the rows of the error table
@@ -172,7 +172,7 @@ module _ (b : Book) (flags id : ℕ) (payload : List ℕ) (of_stream : (id == 0)
   -- on an idle stream
   pub data_idle : is_idle (standing b.drained b.rows id) ≡ true → fault_in s (coming frame) ≡ standing_fault
   data_idle idle =
-      let f = idle_refuses b.rows id of_stream idle in
+      let f = idle_refuses b.drained b.rows id of_stream idle in
       data_fault
       ∙ ap (λ x. fault_from x past standing_fault (is_active b.rows id && past_own)) idle
       ∙ ap (λ (o : Option Fault). fault_from true past o (is_active b.rows id && past_own)) f.1
@@ -197,7 +197,7 @@ module _ (b : Book) (flags id : ℕ) (payload : List ℕ) (of_stream : (id == 0)
       -- on a stream that isn't active
       pub data_inactive : is_active b.rows id ≡ false → fault_in s (coming frame) ≡ standing_fault
       data_inactive idle =
-          let h = inactive_refuses b.rows id of_stream idle in
+          let h = inactive_refuses b.drained b.rows id of_stream idle in
           within ∙ ap (λ (o : Option Fault). fault_from false false o (is_active b.rows id && past_own)) h.1 ∙ cases h.0 h.2 ∙ sym h.1
         where
           cases : (f : Fault) → is_of_stream (Some f) ≡ false → fault_from false false (Some f) (is_active b.rows id && past_own) ≡ Some f
@@ -210,7 +210,7 @@ module _ (b : Book) (flags id : ℕ) (payload : List ℕ) (of_stream : (id == 0)
       data_active active =
           within
           ∙ ap (λ x. fault_from false false standing_fault (x && past_own)) active
-          ∙ ap (λ (o : Option Fault). fault_from false false o past_own) (active_by_client b.rows id of_stream active)
+          ∙ ap (λ (o : Option Fault). fault_from false false o past_own) (active_by_client b.drained b.rows id of_stream active)
           ∙ cases past_own kept.ended_by_client (fault_if bad_body (Stream protocol_error))
         where
           cases : (x y : Bool) (o : Option Fault) → or_else (first_of (rows_from false false (fault_if y (Stream stream_closed)) x)) o ≡ first_of (fault_if x (Stream flow_control_error) ∷ fault_if y (Stream stream_closed) ∷ o ∷ [])

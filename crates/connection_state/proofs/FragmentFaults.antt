@@ -13,7 +13,7 @@ use Rattle.model.specs.Malformed.{is_malformed_content}
 use Rattle.model.specs.SettingValues.{settings_in, settings_fault, code_of_fault, initial_window_after}
 use Rattle.model.specs.Limits.{most_streams, most_resets}
 use Rattle.model.specs.Lifetimes.{opens_by}
-use Rattle.model.proofs.OwedSteps.{neither}
+use Rattle.model.proofs.OwedSteps.{neither_full}
 use Rattle.model.specs.WindowsOnTape.{has_settings, increment, is_past}
 use Rattle.model.specs.ErrorTable.{judged, is_idle, is_headers, is_undecodable, is_malformed, is_bad_block, unless_of_stream}
 use Rattle.theory_errors.specs.Summary.{Outline, carried_in, Summary}
@@ -135,7 +135,7 @@ module _ (s : Summary) (noted : Noted) (of : IsFragment noted.frame) where
     opens_none : completed_in s.block frame ≡ None → no_goaway_in s noted ≡ None
     opens_none none =
         ap (λ (o : Option Partial). fault_if (are_last s s.drained (if opens_by s.drained s.opened o noted.note then frame.id ∷ s.opened else s.opened) && is_crowded_in s) (Stream enhance_your_calm)) none
-        ∙ ap (λ b. fault_if (b && is_crowded_in s) (Stream enhance_your_calm)) (neither (length s.opened) most_streams)
+        ∙ ap (λ b. fault_if (b && is_crowded_in s) (Stream enhance_your_calm)) (neither_full s.drained (length s.opened) most_streams)
 
     -- One with which the block goes on has none.
     pub fragment_fault : completed_in s.block frame ≡ None → is_undecodable noted.note ≡ false → (outline : Outline) → fault_for outline s (Came noted) ≡ None

@@ -43,10 +43,19 @@ use Rattle.streams.specs.Asked.{has, with_slot, changed, active_in}
 use Rattle.streams.proofs.Searches.{IsFound}
 use Rattle.streams.proofs.Changes.{slot_left, slot_given}
 use Rattle.connection_state.specs.Fragments.{IsFragment}
-use Rattle.connection_state.specs.Blocks.{opens_last, no_goaway}
 use Rattle.connection_state.proofs.Standings.{opened_standing}
 use Rattle.connection_state.proofs.FragmentFaults.{block_fault}
 use Rattle.connection_state.proofs.FragmentBooks.{rows_left}
+
+-- ---- the last stream
+
+-- a block on the stream opens the last
+abbrev pub opens_last_in : Summary → ℕ → Bool
+opens_last_in s id = are_last s s.drained (if may_open s.drained s.opened id then id ∷ s.opened else s.opened)
+
+-- its fault where the GOAWAY behind it can't go out
+abbrev pub late_fault : Summary → ℕ → Option Fault
+late_fault s id = fault_if (opens_last_in s id && is_crowded_in s) (Stream 11)
 
 -- ---- what a standing says of HEADERS
 
@@ -98,7 +107,7 @@ module _ (setup : Setup) (b : Book) (frame : Frame) (fields : List Field) (of : 
 
   -- where it opens the last stream, and its GOAWAY can't go out
   abbrev late : Option Fault
-  late = no_goaway (is_crowded_in s) b.rows frame.id
+  late = late_fault s frame.id
 
   pub told_fault : (outline : Outline) → fault_for outline s (Came noted) ≡ or_else (first_of (by_standing ∷ late ∷ [])) (fault_if (is_bad outline) (Stream protocol_error))
   told_fault outline =
@@ -106,7 +115,7 @@ module _ (setup : Setup) (b : Book) (frame : Frame) (fields : List Field) (of : 
       ∙ ap (λ x. or_else (first_of (by_standing ∷ fault_if (are_last s s.drained (if x then frame.id ∷ s.opened else s.opened) && is_crowded_in s) (Stream 11) ∷ [])) (fault_if (is_bad outline) (Stream protocol_error))) opens_is
 
   pub mild : is_fatal by_standing ≡ false → (outline : Outline) → is_fatal (fault_for outline s (Came noted)) ≡ false
-  mild is outline = ap is_fatal (told_fault outline) ∙ cases by_standing is (opens_last b.rows frame.id && is_crowded_in s) (is_bad outline)
+  mild is outline = ap is_fatal (told_fault outline) ∙ cases by_standing is (opens_last_in s frame.id && is_crowded_in s) (is_bad outline)
     where
       cases : (o : Option Fault) → is_fatal o ≡ false → (y x : Bool) → is_fatal (or_else (first_of (o ∷ fault_if y (Stream 11) ∷ [])) (fault_if x (Stream protocol_error))) ≡ false
       cases None is true x = refl
@@ -121,7 +130,7 @@ module _ (setup : Setup) (b : Book) (frame : Frame) (fields : List Field) (of : 
   pub not_there : may_open s.drained s.opened frame.id ≡ true → (row : Row) → IsFound b.rows row → row.id ≡ frame.id → ⊥
   not_there may row found same =
       let there : has b.rows frame.id ≡ true = ap (has b.rows) (sym same) ∙ found.0 in
-      let none : has b.rows frame.id ≡ false = not_opened s.opened frame.id may in
+      let none : has b.rows frame.id ≡ false = not_opened s.drained s.opened frame.id may in
       let no : true ≡ false = sym there ∙ none in cc
 
   -- ---- a frame that is discarded

@@ -303,7 +303,7 @@ impl Connection {
             → IsJudged setup (book_of outside self.old) (frame_of view.entry) (book_of outside self.new) result }
         ensures table { self.new.table ≡ self.old.table }
     {
-        if let Some(fault) = fault_of(self.verdict(view.id, Kind::RstStream)) {
+        if let Some(fault) = fault_of(self.streams.verdict(self.drained, view.id, Kind::RstStream)) {
             return self.pass_over(view, fault);
         }
         if self.resets >= MOST_RESETS {
@@ -325,7 +325,7 @@ impl Connection {
             → IsJudged setup (book_of outside self.old) (frame_of view.entry) (book_of outside self.new) result }
         ensures table { self.new.table ≡ self.old.table }
     {
-        if let Some(fault) = fault_of(self.verdict(view.id, Kind::WindowUpdate)) {
+        if let Some(fault) = fault_of(self.streams.verdict(self.drained, view.id, Kind::WindowUpdate)) {
             return self.pass_over(view, fault);
         }
         if let Some(code) = update_code(&self.streams, &self.settings, view.id, increment) {
@@ -348,7 +348,7 @@ impl Connection {
         ensures refused { IfSome result (λ fault. IsRefused self.now (frame_of view.entry) (fault_told fault)) }
         ensures admitted { IfNone result (IsAdmitted self.now (frame_of view.entry)) }
     {
-        let fault = fault_of(self.verdict(view.id, Kind::Data));
+        let fault = fault_of(self.streams.verdict(self.drained, view.id, Kind::Data));
         if self.streams.standing(self.drained, view.id).is_idle() {
             return fault;
         }

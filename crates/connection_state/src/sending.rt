@@ -6,20 +6,18 @@ ghost use Rattle.std.specs.Prelude.{◌≡◌, ◌≤◌, true, false, if◌then
 ghost use Rattle.model.specs.Windows.{IsSize};
 ghost use Rattle.model.specs.Limits.{greatest_window};
 ghost use Rattle.theory_errors.specs.Judging.{window_in};
-ghost use Rattle.model.specs.StreamStates.Standing.{Beyond};
 ghost use Rattle.theory_errors.specs.Owing.{must_end_in, highest_in};
 ghost use Rattle.theory_errors.specs.Rows.{find, ids_of};
 ghost use Rattle.theory_errors.specs.Rows.Slot.{Over as Done};
 ghost use Rattle.theory_errors.specs.Tidy.{AreKept};
-ghost use Rattle.streams.specs.Asked.{is_active, changed, standing};
+ghost use Rattle.streams.specs.Asked.{is_active, changed};
 ghost use Rattle.streams.specs.Sending.{head_sent, data_sent, given_back, failed, AreReturnable, is_served};
 ghost use Rattle.connection_state.specs.Inbound.{Outside, told_of};
-ghost use Rattle.connection_state.specs.Draining.{is_full_in, AreAsEver};
+ghost use Rattle.connection_state.specs.Draining.{is_full_in};
 ghost use Rattle.connection_state.specs.Sending.{with_kept, AreWithin};
 
 use crate::connection::Connection;
 use protocol::limits::MOST_STREAMS;
-use stream_state::Standing;
 use streams::{Live, StreamTable};
 
 impl Connection {
@@ -151,15 +149,6 @@ impl Connection {
             return None;
         }
         Some(self.streams.highest())
-    }
-
-    /// Whether the connection is drained, and an id above all that were opened: what comes on it is
-    /// discarded (RFC 9113, section 6.8).
-    pub(crate) fn is_beyond(&self, id: u32) -> bool
-        ensures beyond { result ≡ true → (self.now.drained ≡ true) × (standing true self.now.rows id ≡ Beyond) }
-        ensures as_ever { result ≡ false → AreAsEver self.now.drained self.now.rows id }
-    {
-        self.drained && matches!(self.streams.standing(true, id), Standing::Beyond)
     }
 
     /// Whether the connection is to end, though nothing that came calls for it: no stream may be

@@ -34,16 +34,16 @@ enum Step {
 /// The verdicts on DATA, HEADERS, RST_STREAM and WINDOW_UPDATE.
 fn verdicts(streams: &Streams, id: u32) -> [Verdict; 4] {
     [
-        streams.verdict(id, Kind::Data),
-        streams.verdict(id, Kind::Headers),
-        streams.verdict(id, Kind::RstStream),
-        streams.verdict(id, Kind::WindowUpdate),
+        streams.verdict(false, id, Kind::Data),
+        streams.verdict(false, id, Kind::Headers),
+        streams.verdict(false, id, Kind::RstStream),
+        streams.verdict(false, id, Kind::WindowUpdate),
     ]
 }
 
 /// Opens a stream where the verdict allows it, and says whether it does.
 fn opens(streams: &mut Streams, id: u32) -> Result<bool, AllocError> {
-    match streams.verdict(id, Kind::Headers) {
+    match streams.verdict(false, id, Kind::Headers) {
         Verdict::Open => {
             streams.open(id)?;
             Ok(true)
@@ -57,7 +57,7 @@ fn are_counted(streams: &Streams, active: u32, count: u32, highest: u32) -> bool
 }
 
 fn stands(streams: &Streams, id: u32, wanted: Standing, is_idle: bool) -> bool {
-    let standing = streams.standing(id);
+    let standing = streams.standing(false, id);
     standing == wanted && standing.is_idle() == is_idle
 }
 

@@ -1,10 +1,15 @@
 //! The operator wants the connection to end.
 
-ghost use Rattle.std.specs.Prelude.{◌≡◌, [], ◌∷◌, true, None, IfErr, IfOk};
+ghost use Rattle.std.specs.Prelude.{◌≡◌, List, [], ◌∷◌, None, IfErr, IfOk};
 ghost use Rattle.model.specs.Setup.{Setup};
+ghost use Rattle.model.specs.Logs.{Output};
 ghost use Rattle.model.specs.Logs.Event.{Drain};
+ghost use Rattle.model.specs.Tapes.Entry.{Happened};
 ghost use Rattle.refinement.specs.View.{balanced};
-ghost use Rattle.refinement.specs.Rest.{Reached};
+ghost use Rattle.refinement.specs.Rest.{IsAtRest, Reached};
+ghost use Rattle.refinement.specs.Bringing.{Brings};
+ghost use Rattle.event_handlers.specs.block_frames.Following.{goaway_frames};
+ghost use Rattle.event_handlers.specs.Draining.{drained_at};
 ghost use Rattle.event_handlers.specs.Comings.{ComesFrom};
 ghost use Rattle.event_handlers.specs.Inputs.Input.{OfEvent};
 ghost use Rattle.event_handlers.specs.Resting.{now_of, IsSettled, RestsSo};
@@ -16,6 +21,16 @@ use crate::taking::say_goaway;
 use effects::Outputs;
 use refinement::Session;
 use std::alloc::{AllocError, Global};
+
+/// Notes that the operator wants the connection to end, and answers the last stream, for the GOAWAY.
+fn note_drain(session: &mut Session) -> Option<u32>
+    requires rest { IsAtRest session.old }
+    ensures brings { (setup : Setup) (outputs : List Output)
+        → Brings setup session.old balanced outputs (Happened Drain) session.new (record balanced { owed = goaway_frames result }) outputs }
+    ensures notes { session.new ≡ drained_at session.old }
+{
+    session.inbound.drain()
+}
 
 /// The operator's wish, to where the gateway rests. An `Err` says that memory was refused, or that
 /// the connection was ended in place of the GOAWAY.
@@ -32,7 +47,7 @@ fn drain_to_rest(
     ensures over { IfErr result (λ stop. IfOver stop ((setup : Setup)
         → ComesFrom setup session.old balanced out.old (OfEvent Drain ∷ []) balanced None out.new)) }
 {
-    let last = session.inbound.drain();
+    let last = note_drain(session);
     say_goaway(session, last, out)?;
     rest(alloc, session, out)
 }

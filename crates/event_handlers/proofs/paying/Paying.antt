@@ -106,7 +106,7 @@ module _ (setup : Setup) (kept : View) (pending : Pending) (rest : List Frame) (
           none_begun = none_begun;
           before_due = before_due;
           no_note = refl;
-          not_to_open = ap (λ n. may_open (told_by s).opened n) of_connection;
+          not_to_open = ap (λ n. may_open (told_by s).drained (told_by s).opened n) of_connection;
         };
         front = subst (λ (q : List Frame). q ≡ frame ∷ rest_of q) (sym queue) refl;
         control = no_passing frame control;

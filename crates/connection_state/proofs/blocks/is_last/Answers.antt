@@ -80,6 +80,6 @@ returns-clause-is c = λ fields ends.
           ∙ sym (ap (λ x. if x then Some (Stream 11) else fault_on rows c.args.id fields ends) is)
       | inr some ↦
           let active : is_active rows c.args.id ≡ true = active_found _ rows c.args.id c.find.result (c.is_none.ensures ∙ ap not some) c.find.ensures.live in
-          not_last rows c.args.id fields ends (closed_none rows c.args.id c.count.result c.count.ensures.is (active_closed rows c.args.id active))
+          not_last rows c.args.id fields ends (closed_none rows c.args.id c.count.result c.count.ensures.is (active_closed false rows c.args.id active))
           ∙ sym (ap (λ x. if x then Some (Stream 11) else fault_on rows c.args.id fields ends) some)
     ]

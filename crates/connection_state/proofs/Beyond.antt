@@ -11,7 +11,7 @@ use Rattle.theory_errors.specs.Book.{first_ledger, summary_in}
 use Rattle.theory_errors.specs.Rows.{Row, ids_of}
 use Rattle.theory_errors.proofs.Calm.{idle_standing}
 use Rattle.streams.specs.Asked.{standing, opened_in}
-use Rattle.connection_state.specs.Draining.{AreAsEver}
+use Rattle.connection_state.specs.Draining.{is_beyond, AreAsEver}
 use Rattle.connection_state.proofs.Answering.{any_setup}
 
 -- none may be opened where the connection is drained
@@ -28,9 +28,13 @@ last_as_ever true ids id same =
 
 -- ---- a standing
 
-abbrev pub is_beyond : Standing → Bool
-is_beyond Beyond = true
-is_beyond _ = false
+pub beyond_is : (standing : Standing) → is_beyond standing ≡ true → standing ≡ Beyond
+beyond_is Beyond is = refl
+beyond_is WholeConnection is = absurd (let no : false ≡ true = is in cc)
+beyond_is (Opened state) is = absurd (let no : false ≡ true = is in cc)
+beyond_is Idle is = absurd (let no : false ≡ true = is in cc)
+beyond_is ServerIdle is = absurd (let no : false ≡ true = is in cc)
+beyond_is Skipped is = absurd (let no : false ≡ true = is in cc)
 
 -- that of an id, by what is known of it
 abbrev stands : Bool → Option StreamState → Bool → Bool → Bool → Standing

@@ -15,7 +15,8 @@ ghost use Rattle.theory_errors.specs.Owing.{fault_in};
 ghost use Rattle.theory_errors.specs.Quiet.{coming};
 ghost use Rattle.connection_state.specs.Inbound.{Inbound, Outside, book_of, told_of};
 ghost use Rattle.connection_state.specs.Judgement.{behind};
-ghost use Rattle.connection_state.specs.Draining.{AreAsEver};
+ghost use Rattle.connection_state.specs.Draining.{is_beyond, AreAsEver};
+ghost use Rattle.stream_state.specs.Views.{standing_in};
 ghost use Rattle.streams.specs.Asked.{standing};
 ghost use Rattle.model.specs.StreamStates.Standing.{Beyond};
 
@@ -216,7 +217,20 @@ fn is_beyond(drained: bool, streams: &StreamTable, id: u32) -> bool
     ensures beyond { result ≡ true → (drained ≡ true) × (standing true streams.now id ≡ Beyond) }
     ensures as_ever { result ≡ false → AreAsEver drained streams.now id }
 {
-    drained && matches!(streams.standing(true, id), Standing::Beyond)
+    if !drained {
+        return false;
+    }
+    is_above_last(streams.standing(true, id))
+}
+
+/// Whether an id stands above the last that a GOAWAY named.
+fn is_above_last(standing: Standing) -> bool
+    ensures { result ≡ is_beyond (standing_in standing) }
+{
+    match standing {
+        Standing::Beyond => true,
+        _ => false,
+    }
 }
 
 /// Whether a fault says that memory was refused.

@@ -2,7 +2,7 @@
 //! back, and upstreams' answers that failed. Whoever sends a frame notes it here;
 //! `sent_frames_lead` says that this is what the book of `theory_errors` is behind it.
 
-ghost use Rattle.std.specs.Prelude.{◌≡◌, ◌≤◌, true, false, if◌then◌else◌, Some, None, pos, ◌+ℤ◌, ◌-ℤ◌, ◌≤ℤ◌};
+ghost use Rattle.std.specs.Prelude.{◌≡◌, ◌≤◌, true, if◌then◌else◌, Some, None, pos, ◌+ℤ◌, ◌-ℤ◌, ◌≤ℤ◌};
 ghost use Rattle.model.specs.Windows.{IsSize};
 ghost use Rattle.model.specs.Limits.{greatest_window};
 ghost use Rattle.theory_errors.specs.Judging.{window_in};

@@ -1,8 +1,8 @@
 -- The operator wants the connection to end: what is kept then, and what is owed.
-use Rattle.std.proofs.Common.{◌≡◌, ℕ, ◌≤◌, Bool, true, false, ◌||◌, if◌then◌else◌, List, [], ◌∷◌, length, Option, Some, None, refl, sym, ◌∙◌, ap, subst}
+use Rattle.std.proofs.Common.{◌≡◌, ℕ, ◌≤◌, Bool, true, false, ◌||◌, if◌then◌else◌, List, [], ◌∷◌, length, Some, None, refl, sym, ◌∙◌, ap, subst}
 use Rattle.std.specs.List.{list_any}
 use Rattle.std.proofs.lemmas.List.{length-map}
-use Rattle.model.specs.Frames.{Frame, goaway, no_error}
+use Rattle.model.specs.Frames.{goaway, no_error}
 use Rattle.model.specs.Limits.{most_streams}
 use Rattle.model.specs.Logs.{Output}
 use Rattle.model.specs.Logs.Event.{Drain}

@@ -21,7 +21,7 @@ none_opens ids id = and_right (id % 2 == 1 && list_all (λ other. nat_lt other i
 -- What opens no other stream than ever opens the last as ever.
 pub last_as_ever : (drained : Bool) (ids : List ℕ) (id : ℕ) → may_open drained ids id ≡ may_open false ids id
     → (not drained && nat_lt (length ids) most_streams && (drained || length (if may_open drained ids id then id ∷ ids else ids) == most_streams))
-        ≡ (nat_lt (length ids) most_streams && length (if may_open false ids id then id ∷ ids else ids) == most_streams)
+    ≡ (nat_lt (length ids) most_streams && length (if may_open false ids id then id ∷ ids else ids) == most_streams)
 last_as_ever false ids id same = refl
 last_as_ever true ids id same =
     sym (ap (λ x. nat_lt (length ids) most_streams && length (if x then id ∷ ids else ids) == most_streams) (sym same ∙ none_opens ids id) ∙ neither (length ids) most_streams)

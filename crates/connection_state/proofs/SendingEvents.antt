@@ -138,6 +138,7 @@ drain_leads setup b kept few = record {
       ∙ append-nil (if not b.drained && nat_lt (length s.opened) most_streams && true then last ∷ [] else [])
       ∙ last_goaway_is b.drained (length s.opened) (length b.rows) last (length-map b.rows (λ (row : Row). row.id)) few;
 }
+
 -- ---- an answer that fails
 
 -- its event is one of an upstream

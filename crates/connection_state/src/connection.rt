@@ -303,7 +303,9 @@ impl Connection {
             → IsJudged setup (book_of outside self.old) (frame_of view.entry) (book_of outside self.new) result }
         ensures table { self.new.table ≡ self.old.table }
     {
-        if let Some(fault) = fault_of(self.streams.verdict(self.drained, view.id, Kind::RstStream)) {
+        if let Some(fault) = fault_of(
+            self.streams.verdict(self.drained, view.id, Kind::RstStream),
+        ) {
             return self.pass_over(view, fault);
         }
         if self.resets >= MOST_RESETS {
@@ -325,7 +327,10 @@ impl Connection {
             → IsJudged setup (book_of outside self.old) (frame_of view.entry) (book_of outside self.new) result }
         ensures table { self.new.table ≡ self.old.table }
     {
-        if let Some(fault) = fault_of(self.streams.verdict(self.drained, view.id, Kind::WindowUpdate)) {
+        if let Some(fault) = fault_of(
+            self.streams
+                .verdict(self.drained, view.id, Kind::WindowUpdate),
+        ) {
             return self.pass_over(view, fault);
         }
         if let Some(code) = update_code(&self.streams, &self.settings, view.id, increment) {

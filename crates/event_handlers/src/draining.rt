@@ -34,11 +34,7 @@ fn note_drain(session: &mut Session) -> Option<u32>
 
 /// The operator's wish, to where the gateway rests. An `Err` says that memory was refused, or that
 /// the connection was ended in place of the GOAWAY.
-fn drain_to_rest(
-    alloc: Global,
-    session: &mut Session,
-    out: &mut Outputs,
-) -> Result<Onward, Halt>
+fn drain_to_rest(alloc: Global, session: &mut Session, out: &mut Outputs) -> Result<Onward, Halt>
     requires settled { IsSettled session.old }
     requires reached { (setup : Setup) × Reached setup session.old balanced }
     ensures comes { IfOk result (λ went. (setup : Setup) → ComesFrom setup session.old balanced out.old (OfEvent Drain ∷ []) balanced
@@ -56,11 +52,7 @@ fn drain_to_rest(
 /// by a GOAWAY, unless it was before, and no stream is opened any more. Those that were opened are
 /// answered; once none is active the connection is shut. An `Err` says that memory was refused; then
 /// what is kept and the outputs are of no use any more.
-pub fn drain(
-    alloc: Global,
-    session: &mut Session,
-    out: &mut Outputs,
-) -> Result<Onward, AllocError>
+pub fn drain(alloc: Global, session: &mut Session, out: &mut Outputs) -> Result<Onward, AllocError>
     requires settled { IsSettled session.old }
     requires reached { (setup : Setup) × Reached setup session.old balanced }
     ensures comes { IfOk result (λ went. (setup : Setup) → ComesFrom setup session.old balanced out.old (OfEvent Drain ∷ []) balanced

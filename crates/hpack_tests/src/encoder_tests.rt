@@ -4,7 +4,7 @@ ghost use Rattle.std.specs.Prelude.{◌≤◌, length, IfOk};
 ghost use Rattle.std.specs.List.{All};
 ghost use Rattle.header_blocks.specs.Chosen.{HasShortStrings};
 
-use crate::lines::{Line, are_fields};
+use crate::lines::{are_fields, assert_told_none, cut_at, line_of};
 use header_blocks::{Decoded, Decoder, Encoder, Policy};
 use hpack_table::Field;
 use std::alloc::{AllocError, Global};
@@ -20,31 +20,34 @@ fn short(octets: &[u8]) -> &[u8]
     }
 }
 
-/// A field, whose strings are short.
-fn field(alloc: Global, name: &[u8], value: &[u8]) -> Result<Field, AllocError>
+/// The field of a text, whose strings are short.
+fn field_of(alloc: Global, text: &[u8]) -> Result<Field, AllocError>
     ensures { IfOk result HasShortStrings }
 {
+    let (name, value) = line_of(text);
     Field::of(alloc, short(name), short(value))
 }
 
-/// The fields of these names and values.
-fn fields_of(alloc: Global, lines: &[Line<'_>]) -> Result<Vec<Field>, AllocError>
+/// The fields of a text. It has bars between them.
+fn fields_of(alloc: Global, text: &[u8]) -> Result<Vec<Field>, AllocError>
     ensures { IfOk result (λ fields. All HasShortStrings fields.items) }
 {
     let mut fields = Vec::new(alloc);
-    for (name, value) in lines {
-        fields.push(field(alloc, name, value)?)?;
+    let mut rest = text;
+    for _place in 0..text.len() {
+        if rest.is_empty() {
+            break;
+        }
+        let (part, behind) = cut_at(rest, b'|');
+        fields.push(field_of(alloc, part)?)?;
+        rest = behind;
     }
     Ok(fields)
 }
 
-/// The next block, of fields of these names and values.
-fn block_of(
-    alloc: Global,
-    encoder: &mut Encoder,
-    lines: &[Line<'_>],
-) -> Result<Vec<u8>, AllocError> {
-    let fields = fields_of(alloc, lines)?;
+/// The next block, of the fields of a text.
+fn block_of(alloc: Global, encoder: &mut Encoder, text: &[u8]) -> Result<Vec<u8>, AllocError> {
+    let fields = fields_of(alloc, text)?;
     let mut block = Vec::new(alloc);
     encoder.encode(&fields, &mut block)?;
     Ok(block)
@@ -55,8 +58,8 @@ fn block_of(
 enum Step<'a> {
     /// A limit of the peer.
     Limit(u32),
-    /// The fields of a block, and its octets.
-    Block(&'a [Line<'a>], &'a [u8]),
+    /// The fields of a block, as a text, and its octets.
+    Block(&'a [u8], &'a [u8]),
 }
 
 fn answers(alloc: Global, encoder: &mut Encoder, step: Step<'_>) -> Result<bool, AllocError> {
@@ -65,8 +68,22 @@ fn answers(alloc: Global, encoder: &mut Encoder, step: Step<'_>) -> Result<bool,
             encoder.peer_limit(limit);
             true
         }
-        Step::Block(lines, wanted) => block_of(alloc, encoder, lines)?.as_slice() == wanted,
+        Step::Block(text, wanted) => block_of(alloc, encoder, text)?.as_slice() == wanted,
     })
+}
+
+/// The first of these steps at which the encoder writes something else.
+fn first_answered_otherwise(
+    alloc: Global,
+    encoder: &mut Encoder,
+    steps: &[Step<'_>],
+) -> Result<Option<usize>, AllocError> {
+    for (place, step) in steps.iter().enumerate() {
+        if !answers(alloc, encoder, *step)? {
+            return Ok(Some(place));
+        }
+    }
+    Ok(None)
 }
 
 /// The first of these steps at which a new encoder writes something else.
@@ -76,74 +93,45 @@ fn first_that_differs(
     steps: &[Step<'_>],
 ) -> Result<Option<usize>, AllocError> {
     let mut encoder = Encoder::new(alloc, policy);
-    for (place, step) in steps.iter().enumerate() {
-        if !answers(alloc, &mut encoder, *step)? {
-            return Ok(Some(place));
-        }
-    }
-    Ok(None)
+    first_answered_otherwise(alloc, &mut encoder, steps)
 }
 
-const STATUS: Line<'static> = (b":status", b"200");
-
-const CUSTOM: Line<'static> = (b"x-a", b"1");
-
 static ONCE: [Step<'static>; 2] = [
-    Step::Block(&[STATUS, CUSTOM], b"\x88\x40\x03x-a\x011"),
-    Step::Block(&[STATUS, CUSTOM], b"\x88\xbe"),
+    Step::Block(b":status=200|x-a=1", b"\x88\x40\x03x-a\x011"),
+    Step::Block(b":status=200|x-a=1", b"\x88\xbe"),
 ];
 
 #[test]
 fn a_field_is_inserted_once(rt: HostRuntime) -> Result<(), Fail> {
-    assert_eq!(rt;
-        first_that_differs(rt.alloc(), Policy::Indexing, &ONCE)?,
-        None
-    );
-    Ok(())
+    assert_told_none(&rt, first_that_differs(rt.alloc(), Policy::Indexing, &ONCE))
 }
-
-const METHOD: Line<'static> = (b":method", b"GET");
-
-const SCHEME: Line<'static> = (b":scheme", b"http");
-
-const PATH: Line<'static> = (b":path", b"/");
-
-const HOST: Line<'static> = (b":authority", b"www.example.com");
-
-const NO_CACHE: Line<'static> = (b"cache-control", b"no-cache");
 
 /// RFC 7541, appendix C.4: requests, whose strings are shorter as Huffman text.
 static REQUESTS: [Step<'static>; 3] = [
     Step::Block(
-        &[METHOD, SCHEME, PATH, HOST],
+        b":method=GET|:scheme=http|:path=/|:authority=www.example.com",
         b"\x82\x86\x84\x41\x8c\xf1\xe3\xc2\xe5\xf2\x3a\x6b\xa0\xab\x90\xf4\xff",
     ),
     Step::Block(
-        &[METHOD, SCHEME, PATH, HOST, NO_CACHE],
+        b":method=GET|:scheme=http|:path=/|:authority=www.example.com|cache-control=no-cache",
         b"\x82\x86\x84\xbe\x58\x86\xa8\xeb\x10\x64\x9c\xbf",
     ),
     Step::Block(
-        &[
-            METHOD,
-            (b":scheme", b"https"),
-            (b":path", b"/index.html"),
-            HOST,
-            (b"custom-key", b"custom-value"),
-        ],
+        b":method=GET|:scheme=https|:path=/index.html|:authority=www.example.com|\
+        custom-key=custom-value",
         b"\x82\x87\x85\xbf\x40\x88\x25\xa8\x49\xe9\x5b\xa9\x7d\x7f\x89\x25\xa8\x49\xe9\x5b\xb8\xe8\xb4\xbf",
     ),
 ];
 
 #[test]
 fn requests_with_huffman_text(rt: HostRuntime) -> Result<(), Fail> {
-    assert_eq!(rt;
-        first_that_differs(rt.alloc(), Policy::Indexing, &REQUESTS)?,
-        None
-    );
-    Ok(())
+    assert_told_none(
+        &rt,
+        first_that_differs(rt.alloc(), Policy::Indexing, &REQUESTS),
+    )
 }
 
-const NAMED: &[Line<'static>] = &[(b"custom-key", b"custom-value"), NO_CACHE];
+const NAMED: &[u8] = b"custom-key=custom-value|cache-control=no-cache";
 
 /// Two fields, of which the static table has the name of one, and the same ones again.
 static TWICE: [Step<'static>; 2] = [
@@ -157,45 +145,32 @@ static TWICE: [Step<'static>; 2] = [
 
 #[test]
 fn fields_with_huffman_text_are_inserted_once(rt: HostRuntime) -> Result<(), Fail> {
-    assert_eq!(rt;
-        first_that_differs(rt.alloc(), Policy::Indexing, &TWICE)?,
-        None
-    );
-    Ok(())
+    assert_told_none(
+        &rt,
+        first_that_differs(rt.alloc(), Policy::Indexing, &TWICE),
+    )
 }
-
-const CACHE: Line<'static> = (b"cache-control", b"private");
-
-const DATE: Line<'static> = (b"date", b"Mon, 21 Oct 2013 20:13:21 GMT");
-
-const LOCATION: Line<'static> = (b"location", b"https://www.example.com");
 
 /// RFC 7541, appendix C.6: responses over a table of 256 octets. The standard's example takes
 /// Huffman text for `307` too, which isn't shorter.
 static RESPONSES: [Step<'static>; 4] = [
     Step::Limit(256),
     Step::Block(
-        &[(b":status", b"302"), CACHE, DATE, LOCATION],
+        b":status=302|cache-control=private|date=Mon, 21 Oct 2013 20:13:21 GMT|\
+        location=https://www.example.com",
         b"\x3f\xe1\x01\x48\x82\x64\x02\x58\x85\xae\xc3\x77\x1a\x4b\x61\x96\xd0\x7a\xbe\x94\x10\x54\xd4\x44\
         \xa8\x20\x05\x95\x04\x0b\x81\x66\xe0\x82\xa6\x2d\x1b\xff\x6e\x91\x9d\x29\xad\x17\x18\x63\xc7\x8f\x0b\x97\xc8\
         \xe9\xae\x82\xae\x43\xd3",
     ),
     Step::Block(
-        &[(b":status", b"307"), CACHE, DATE, LOCATION],
+        b":status=307|cache-control=private|date=Mon, 21 Oct 2013 20:13:21 GMT|\
+        location=https://www.example.com",
         b"\x48\x03307\xc1\xc0\xbf",
     ),
     Step::Block(
-        &[
-            STATUS,
-            CACHE,
-            (b"date", b"Mon, 21 Oct 2013 20:13:22 GMT"),
-            LOCATION,
-            (b"content-encoding", b"gzip"),
-            (
-                b"set-cookie",
-                b"foo=ASDJKHQKBZXOQWEOPIUAXQWEOIU; max-age=3600; version=1",
-            ),
-        ],
+        b":status=200|cache-control=private|date=Mon, 21 Oct 2013 20:13:22 GMT|\
+        location=https://www.example.com|content-encoding=gzip|\
+        set-cookie=foo=ASDJKHQKBZXOQWEOPIUAXQWEOIU; max-age=3600; version=1",
         b"\x88\xc1\x61\x96\xd0\x7a\xbe\x94\x10\x54\xd4\x44\xa8\x20\x05\x95\x04\x0b\x81\x66\xe0\x84\xa6\x2d\x1b\
         \xff\xc0\x5a\x83\x9b\xd9\xab\x77\xad\x94\xe7\x82\x1d\xd7\xf2\xe6\xc7\xb3\x35\xdf\xdf\xcd\x5b\x39\x60\xd5\xaf\
         \x27\x08\x7f\x36\x72\xc1\xab\x27\x0f\xb5\x29\x1f\x95\x87\x31\x60\x65\xc0\x03\xed\x4e\xe5\xb1\x06\x3d\x50\x07",
@@ -204,11 +179,10 @@ static RESPONSES: [Step<'static>; 4] = [
 
 #[test]
 fn responses_with_huffman_text(rt: HostRuntime) -> Result<(), Fail> {
-    assert_eq!(rt;
-        first_that_differs(rt.alloc(), Policy::Indexing, &RESPONSES)?,
-        None
-    );
-    Ok(())
+    assert_told_none(
+        &rt,
+        first_that_differs(rt.alloc(), Policy::Indexing, &RESPONSES),
+    )
 }
 
 /// Limits, and the block of `x-a: 1` behind them.
@@ -233,7 +207,7 @@ fn behind(alloc: Global, limits: &[u32]) -> Result<Vec<u8>, AllocError> {
     for limit in limits {
         encoder.peer_limit(*limit);
     }
-    block_of(alloc, &mut encoder, &[CUSTOM])
+    block_of(alloc, &mut encoder, b"x-a=1")
 }
 
 /// The first limits that are announced in another way.
@@ -248,33 +222,28 @@ fn first_announced_otherwise(alloc: Global) -> Result<Option<usize>, AllocError>
 
 #[test]
 fn limits_are_announced(rt: HostRuntime) -> Result<(), Fail> {
-    assert_eq!(rt; first_announced_otherwise(rt.alloc())?, None);
-    Ok(())
+    assert_told_none(&rt, first_announced_otherwise(rt.alloc()))
 }
 
-const BAD_GATEWAY: &[Line<'static>] = &[(b":status", b"502"), (b"content-length", b"0")];
+const BAD_GATEWAY: &[u8] = b":status=502|content-length=0";
 
 /// A response's head with a length, then the same one and one of another status, behind limits.
 static PLAIN: [Step<'static>; 7] = [
-    Step::Block(&[STATUS, (b"content-length", b"2")], b"\x88\x0f\x0d\x012"),
+    Step::Block(b":status=200|content-length=2", b"\x88\x0f\x0d\x012"),
     Step::Block(BAD_GATEWAY, b"\x08\x03502\x0f\x0d\x010"),
     Step::Block(BAD_GATEWAY, b"\x08\x03502\x0f\x0d\x010"),
     Step::Limit(0),
     Step::Limit(4096),
-    Step::Block(&[(b":status", b"204")], b"\x20\x3f\xe1\x1f\x89"),
-    Step::Block(&[CUSTOM], b"\x00\x03x-a\x011"),
+    Step::Block(b":status=204", b"\x20\x3f\xe1\x1f\x89"),
+    Step::Block(b"x-a=1", b"\x00\x03x-a\x011"),
 ];
 
 #[test]
 fn plain_blocks_insert_nothing(rt: HostRuntime) -> Result<(), Fail> {
-    assert_eq!(rt;
-        first_that_differs(rt.alloc(), Policy::Plain, &PLAIN)?,
-        None
-    );
-    Ok(())
+    assert_told_none(&rt, first_that_differs(rt.alloc(), Policy::Plain, &PLAIN))
 }
 
-const READ: &[Line<'static>] = &[STATUS, CUSTOM, (b"x-a", b"2"), NO_CACHE, CUSTOM];
+const READ: &[u8] = b":status=200|x-a=1|x-a=2|cache-control=no-cache|x-a=1";
 
 /// Whether the next block of the encoder is decoded to the fields that it is of.
 fn is_read(
@@ -289,19 +258,42 @@ fn is_read(
     })
 }
 
-/// The first limit behind which one of three blocks isn't decoded to the fields that it is of.
-fn first_misread(alloc: Global, limits: &[u32]) -> Result<Option<u32>, AllocError> {
-    let mut encoder = Encoder::new(alloc, Policy::Indexing);
-    let mut decoder = Decoder::new(alloc, 4096);
+/// Whether the next three blocks of the encoder are decoded to the fields that they are of.
+fn are_read(
+    alloc: Global,
+    encoder: &mut Encoder,
+    decoder: &mut Decoder,
+) -> Result<bool, AllocError> {
+    for _ in 0..3 {
+        if !is_read(alloc, encoder, decoder)? {
+            return Ok(false);
+        }
+    }
+    Ok(true)
+}
+
+/// The first limit of the encoder behind which one of three blocks isn't decoded to the fields that
+/// it is of.
+fn first_misread_behind(
+    alloc: Global,
+    encoder: &mut Encoder,
+    decoder: &mut Decoder,
+    limits: &[u32],
+) -> Result<Option<u32>, AllocError> {
     for limit in limits {
         encoder.peer_limit(*limit);
-        for _ in 0..3 {
-            if !is_read(alloc, &mut encoder, &mut decoder)? {
-                return Ok(Some(*limit));
-            }
+        if !are_read(alloc, encoder, decoder)? {
+            return Ok(Some(*limit));
         }
     }
     Ok(None)
+}
+
+/// The same of a new encoder and a new decoder.
+fn first_misread(alloc: Global, limits: &[u32]) -> Result<Option<u32>, AllocError> {
+    let mut encoder = Encoder::new(alloc, Policy::Indexing);
+    let mut decoder = Decoder::new(alloc, 4096);
+    first_misread_behind(alloc, &mut encoder, &mut decoder, limits)
 }
 
 #[test]

@@ -1,5 +1,6 @@
 //! The Huffman code, beside plain programs and the codes as the standard prints them.
 
+use crate::lines::{assert_none, assert_told_none};
 use huffman::{HuffFault, decode, encode, encoded_len};
 use plain::{bits_of, plain_decode, plain_text};
 use std::alloc::{AllocError, Global};
@@ -17,7 +18,8 @@ fn decodes(alloc: Global, octets: &[u8], string: &[u8]) -> Result<bool, AllocErr
     is_behind(alloc, &out, string)
 }
 
-/// Whether a string is encoded as this text, behind what stands there already, and its length is told.
+/// Whether a string is encoded as this text, behind what stands there already, and its length is
+/// told.
 fn encodes(alloc: Global, string: &[u8], text: &[u8]) -> Result<bool, AllocError> {
     if string.len() > 65536 {
         return Ok(false);
@@ -59,8 +61,7 @@ static TEXTS: [Row; 4] = [
 
 #[test]
 fn strings_are_decoded(rt: HostRuntime) -> Result<(), Fail> {
-    assert_eq!(rt; first_decoded_otherwise(rt.alloc(), &TEXTS)?, None);
-    Ok(())
+    assert_told_none(&rt, first_decoded_otherwise(rt.alloc(), &TEXTS))
 }
 
 /// A text, and its fault.
@@ -85,7 +86,7 @@ static FAULTS: [FaultRow; 3] = [
 
 #[test]
 fn faults_leave_the_octets(rt: HostRuntime) {
-    assert_eq!(rt; first_fault_that_differs(rt.alloc(), &FAULTS), None);
+    assert_none(&rt, first_fault_that_differs(rt.alloc(), &FAULTS));
 }
 
 /// The first string that is encoded in another way.
@@ -107,11 +108,11 @@ static STRINGS: [Row; 4] = [
 
 #[test]
 fn strings_are_encoded(rt: HostRuntime) -> Result<(), Fail> {
-    assert_eq!(rt; first_encoded_otherwise(rt.alloc(), &STRINGS)?, None);
-    Ok(())
+    assert_told_none(&rt, first_encoded_otherwise(rt.alloc(), &STRINGS))
 }
 
-/// Whether a text decodes to what the plain program says: the same string, or the same fault and nothing.
+/// Whether a text decodes to what the plain program says: the same string, or the same fault and
+/// nothing.
 fn decodes_alike(alloc: Global, octets: &[u8]) -> bool {
     let mut wanted = Vec::new(alloc);
     let wanted_result = plain_decode(octets, &mut wanted);
@@ -122,7 +123,8 @@ fn decodes_alike(alloc: Global, octets: &[u8]) -> bool {
     decode(octets, &mut out) == wanted_result && out == wanted
 }
 
-/// Whether a string's text is its codes and then ones, has the length that was told, and decodes to the string.
+/// Whether a string's text is its codes and then ones, has the length that was told, and decodes to
+/// the string.
 fn comes_back(alloc: Global, string: &[u8]) -> Result<bool, AllocError> {
     if string.len() > 65536 {
         return Ok(false);

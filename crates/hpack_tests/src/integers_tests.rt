@@ -1,5 +1,6 @@
 //! Integers of HPACK.
 
+use crate::lines::assert_none;
 use hpack_int::IntRead;
 use std::alloc::{AllocError, Global};
 use std::test::*;
@@ -32,7 +33,7 @@ static READ: [Row; 7] = [
 
 #[test]
 fn integers_are_read(rt: HostRuntime) {
-    assert_eq!(rt; first_that_differs(&READ), None);
+    assert_none(&rt, first_that_differs(&READ));
 }
 
 /// Integers with a prefix of five or eight bits, one behind another.

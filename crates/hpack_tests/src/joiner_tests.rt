@@ -1,5 +1,6 @@
 //! Header blocks as they are joined from the fragments of frames.
 
+use crate::lines::assert_told_none;
 use header_blocks::{Block, Decoded, Decoder, JoinFault, Joiner};
 use std::alloc::{AllocError, Global};
 use std::test::*;
@@ -93,15 +94,23 @@ fn answers(joiner: &mut Joiner, step: Step<'_>) -> Result<bool, AllocError> {
     })
 }
 
-/// The first of these steps of a new joiner that answers something else.
-fn first_that_differs(alloc: Global, steps: &[Step<'_>]) -> Result<Option<usize>, AllocError> {
-    let mut joiner = Joiner::new(alloc);
+/// The first of these steps of the joiner that answers something else.
+fn first_answered_otherwise(
+    joiner: &mut Joiner,
+    steps: &[Step<'_>],
+) -> Result<Option<usize>, AllocError> {
     for (place, step) in steps.iter().enumerate() {
-        if !answers(&mut joiner, *step)? {
+        if !answers(joiner, *step)? {
             return Ok(Some(place));
         }
     }
     Ok(None)
+}
+
+/// The first of these steps of a new joiner that answers something else.
+fn first_that_differs(alloc: Global, steps: &[Step<'_>]) -> Result<Option<usize>, AllocError> {
+    let mut joiner = Joiner::new(alloc);
+    first_answered_otherwise(&mut joiner, steps)
 }
 
 static JOINED: [Step<'static>; 8] = [
@@ -117,8 +126,7 @@ static JOINED: [Step<'static>; 8] = [
 
 #[test]
 fn fragments_are_joined(rt: HostRuntime) -> Result<(), Fail> {
-    assert_eq!(rt; first_that_differs(rt.alloc(), &JOINED)?, None);
-    Ok(())
+    assert_told_none(&rt, first_that_differs(rt.alloc(), &JOINED))
 }
 
 static IN_TURN: [Step<'static>; 10] = [
@@ -136,36 +144,30 @@ static IN_TURN: [Step<'static>; 10] = [
 
 #[test]
 fn a_continuation_comes_inside_a_block_alone(rt: HostRuntime) -> Result<(), Fail> {
-    assert_eq!(rt; first_that_differs(rt.alloc(), &IN_TURN)?, None);
-    Ok(())
+    assert_told_none(&rt, first_that_differs(rt.alloc(), &IN_TURN))
 }
 
-/// So many octets.
-fn octets(alloc: Global, count: usize) -> Result<Vec<u8>, AllocError> {
-    let mut octets = Vec::new(alloc);
-    for _ in 0..count {
-        octets.push(0x61)?;
-    }
-    Ok(octets)
-}
-
-#[test]
-fn a_block_has_at_most_65536_octets(rt: HostRuntime) -> Result<(), Fail> {
-    let frame = octets(rt.alloc(), 16384)?;
-    let shorter = octets(rt.alloc(), 16383)?;
-    let whole = octets(rt.alloc(), 65536)?;
+/// The first step that answers something else as a block of these 65,536 octets is joined.
+fn first_of_a_whole_that_differs(alloc: Global, whole: &[u8]) -> Result<Option<usize>, AllocError> {
+    let (frame, _) = whole.split_at(whole.len().min(16384));
+    let (shorter, _) = whole.split_at(whole.len().min(16383));
     let steps = [
-        Step::First(1, false, &frame),
-        Step::More(1, &frame, 2),
-        Step::More(1, &shorter, 1),
+        Step::First(1, false, frame),
+        Step::More(1, frame, 2),
+        Step::More(1, shorter, 1),
         Step::Fault(CONTINUATION, 1, b"ab", Some(JoinFault::TooLong)),
         Step::More(1, b"a", 1),
         Step::Fault(CONTINUATION, 1, b"a", Some(JoinFault::TooLong)),
         Step::Fault(CONTINUATION, 1, b"", None),
-        Step::Block(1, false, &whole),
+        Step::Block(1, false, whole),
     ];
-    assert_eq!(rt; first_that_differs(rt.alloc(), &steps)?, None);
-    Ok(())
+    first_that_differs(alloc, &steps)
+}
+
+#[test]
+fn a_block_has_at_most_65536_octets(rt: HostRuntime) -> Result<(), Fail> {
+    let whole = Vec::from_elem(rt.alloc(), b'a', 65536)?;
+    assert_told_none(&rt, first_of_a_whole_that_differs(rt.alloc(), &whole))
 }
 
 /// Of the first block are 65 octets, and of the next as many: the frames are counted anew.
@@ -182,8 +184,7 @@ static MANY: [Step<'static>; 8] = [
 
 #[test]
 fn a_block_has_at_most_64_continuations(rt: HostRuntime) -> Result<(), Fail> {
-    assert_eq!(rt; first_that_differs(rt.alloc(), &MANY)?, None);
-    Ok(())
+    assert_told_none(&rt, first_that_differs(rt.alloc(), &MANY))
 }
 
 /// The blocks of RFC 7541, appendix C.4, with their fields' number.
@@ -199,15 +200,26 @@ const BLOCKS: [(&[u8], usize); 3] = [
     ),
 ];
 
+/// The block that the joiner joins of two parts.
+fn joined_by(joiner: &mut Joiner, front: &[u8], back: &[u8]) -> Result<Option<Block>, AllocError> {
+    if joins(joiner, HEADERS, 1, true, front)? && joins(joiner, CONTINUATION, 1, false, back)? {
+        return Ok(joiner.finish());
+    }
+    Ok(None)
+}
+
 /// The block that is joined of two parts.
 fn joined(alloc: Global, front: &[u8], back: &[u8]) -> Result<Option<Block>, AllocError> {
     let mut joiner = Joiner::new(alloc);
-    let joins_both = joins(&mut joiner, HEADERS, 1, true, front)?
-        && joins(&mut joiner, CONTINUATION, 1, false, back)?;
-    if !joins_both {
-        return Ok(None);
+    joined_by(&mut joiner, front, back)
+}
+
+/// Whether octets are decoded to so many fields.
+fn has_fields(alloc: Global, decoder: &mut Decoder, octets: &[u8], count: usize) -> bool {
+    match decoder.decode(alloc, octets, 16384) {
+        Ok(Decoded::Fields(fields)) => fields.len() == count,
+        _ => false,
     }
-    Ok(joiner.finish())
 }
 
 /// Whether a block, cut in two, is joined again, and decoded to so many fields.
@@ -219,26 +231,35 @@ fn is_alike(
     count: usize,
 ) -> Result<bool, AllocError> {
     let (front, back) = block.split_at(block.len().min(cut));
-    let Some(joined) = joined(alloc, front, back)? else {
-        return Ok(false);
-    };
-    if joined.fragments() != block {
-        return Ok(false);
-    }
-    Ok(match decoder.decode(alloc, joined.fragments(), 16384) {
-        Ok(Decoded::Fields(fields)) => fields.len() == count,
-        _ => false,
+    Ok(match joined(alloc, front, back)? {
+        Some(joined) => {
+            joined.fragments() == block && has_fields(alloc, decoder, joined.fragments(), count)
+        }
+        None => false,
     })
+}
+
+/// Whether the blocks, each cut in two at this place, are decoded alike in turn.
+fn are_alike(alloc: Global, decoder: &mut Decoder, cut: usize) -> Result<bool, AllocError> {
+    for (block, count) in BLOCKS {
+        if !is_alike(alloc, decoder, block, cut, count)? {
+            return Ok(false);
+        }
+    }
+    Ok(true)
+}
+
+/// The same of a new decoder.
+fn are_cut_alike(alloc: Global, cut: usize) -> Result<bool, AllocError> {
+    let mut decoder = Decoder::new(alloc, 4096);
+    are_alike(alloc, &mut decoder, cut)
 }
 
 /// The first place at which the blocks, each cut in two, aren't decoded alike.
 fn first_cut_that_differs(alloc: Global) -> Result<Option<usize>, AllocError> {
     for cut in 0..25 {
-        let mut decoder = Decoder::new(alloc, 4096);
-        for (block, count) in BLOCKS {
-            if !is_alike(alloc, &mut decoder, block, cut, count)? {
-                return Ok(Some(cut));
-            }
+        if !are_cut_alike(alloc, cut)? {
+            return Ok(Some(cut));
         }
     }
     Ok(None)
@@ -247,6 +268,5 @@ fn first_cut_that_differs(alloc: Global) -> Result<Option<usize>, AllocError> {
 // Wherever each block is cut in two, the same octets are decoded.
 #[test]
 fn a_block_decodes_alike_however_it_is_cut(rt: HostRuntime) -> Result<(), Fail> {
-    assert_eq!(rt; first_cut_that_differs(rt.alloc())?, None);
-    Ok(())
+    assert_told_none(&rt, first_cut_that_differs(rt.alloc()))
 }

@@ -1,6 +1,6 @@
 //! The table of HPACK, its entries, and how fields are found in it.
 
-use crate::lines::Line;
+use crate::lines::{Line, assert_told_none};
 use hpack_table::{Field, Found, Table, static_entry};
 use std::alloc::{AllocError, Global};
 use std::test::*;
@@ -43,18 +43,27 @@ fn answers(alloc: Global, table: &mut Table, step: Step<'_>) -> Result<bool, All
     Ok(true)
 }
 
+/// The first of these steps of a lent table that answers something else.
+fn first_answered_otherwise(
+    alloc: Global,
+    table: &mut Table,
+    steps: &[Step<'_>],
+) -> Result<Option<usize>, AllocError> {
+    for (place, step) in steps.iter().enumerate() {
+        if !answers(alloc, table, *step)? {
+            return Ok(Some(place));
+        }
+    }
+    Ok(None)
+}
+
 /// The first of these steps of the table that answers something else.
 fn first_that_differs(
     alloc: Global,
     mut table: Table,
     steps: &[Step<'_>],
 ) -> Result<Option<usize>, AllocError> {
-    for (place, step) in steps.iter().enumerate() {
-        if !answers(alloc, &mut table, *step)? {
-            return Ok(Some(place));
-        }
-    }
-    Ok(None)
+    first_answered_otherwise(alloc, &mut table, steps)
 }
 
 static OLDEST: [Step<'static>; 16] = [
@@ -79,11 +88,10 @@ static OLDEST: [Step<'static>; 16] = [
 #[test]
 fn the_oldest_go(rt: HostRuntime) -> Result<(), Fail> {
     let alloc = rt.alloc();
-    assert_eq!(rt;
-        first_that_differs(alloc, Table::new(alloc, 100), &OLDEST)?,
-        None
-    );
-    Ok(())
+    assert_told_none(
+        &rt,
+        first_that_differs(alloc, Table::new(alloc, 100), &OLDEST),
+    )
 }
 
 /// Adds so many fields, each with its number as its value.
@@ -105,16 +113,25 @@ fn has_newest(table: &Table, newest: u8, count: u8) -> bool {
     table.get(62 + u32::from(count)).is_none()
 }
 
+/// Whether the table keeps 40 fields, then the newest ten of them, and ten behind one more.
+fn keeps_many(alloc: Global, table: &mut Table) -> Result<[bool; 3], AllocError> {
+    add_numbered(alloc, table, 40)?;
+    let all = has_newest(table, 39, 40);
+    table.set_max(340);
+    let ten = has_newest(table, 39, 10);
+    add(alloc, table, (b"n", &[40]))?;
+    Ok([all, ten, has_newest(table, 40, 10)])
+}
+
+/// The same of a new table.
+fn are_many_kept(alloc: Global) -> Result<[bool; 3], AllocError> {
+    let mut table = Table::new(alloc, 4096);
+    keeps_many(alloc, &mut table)
+}
+
 #[test]
 fn many_fields_are_kept(rt: HostRuntime) -> Result<(), Fail> {
-    let alloc = rt.alloc();
-    let mut table = Table::new(alloc, 4096);
-    add_numbered(alloc, &mut table, 40)?;
-    assert!(rt; has_newest(&table, 39, 40));
-    table.set_max(340);
-    assert!(rt; has_newest(&table, 39, 10));
-    add(alloc, &mut table, (b"n", &[40]))?;
-    assert!(rt; has_newest(&table, 40, 10));
+    assert_eq!(rt; are_many_kept(rt.alloc())?, [true; 3]);
     Ok(())
 }
 
@@ -131,11 +148,10 @@ static FOUND: [Step<'static>; 7] = [
 #[test]
 fn fields_are_found(rt: HostRuntime) -> Result<(), Fail> {
     let alloc = rt.alloc();
-    assert_eq!(rt;
-        first_that_differs(alloc, Table::new(alloc, 4096), &FOUND)?,
-        None
-    );
-    Ok(())
+    assert_told_none(
+        &rt,
+        first_that_differs(alloc, Table::new(alloc, 4096), &FOUND),
+    )
 }
 
 /// Adds a field to both tables, and says whether they had found it alike.
@@ -151,17 +167,20 @@ fn are_alike(
     Ok(alike)
 }
 
-/// The first of so many random fields that tables with an index and without one don't find alike,
-/// as they fill up and let go.
-fn first_found_otherwise(alloc: Global, numbers: u32) -> Result<Option<u32>, AllocError> {
-    let mut walked = Table::new(alloc, 200);
-    let mut indexed = Table::with_index(alloc, 200);
+/// The first of so many random fields that both tables don't find alike, as they fill up and let
+/// go.
+fn first_found_by_one(
+    alloc: Global,
+    walked: &mut Table,
+    indexed: &mut Table,
+    numbers: u32,
+) -> Result<Option<u32>, AllocError> {
     let mut random = 1u32;
     for number in 0..numbers {
         random = random.wrapping_mul(1664525).wrapping_add(1013904223);
         let name = [b'a' + (random >> 30) as u8];
         let value = [b'0' + (random / 65536 % 8) as u8];
-        if !are_alike(alloc, &mut walked, &mut indexed, (&name, &value))? {
+        if !are_alike(alloc, walked, indexed, (&name, &value))? {
             return Ok(Some(number));
         }
         if number % 16 == 0 {
@@ -170,6 +189,13 @@ fn first_found_otherwise(alloc: Global, numbers: u32) -> Result<Option<u32>, All
         }
     }
     Ok(None)
+}
+
+/// The same of a table without an index and one with an index.
+fn first_found_otherwise(alloc: Global, numbers: u32) -> Result<Option<u32>, AllocError> {
+    let mut walked = Table::new(alloc, 200);
+    let mut indexed = Table::with_index(alloc, 200);
+    first_found_by_one(alloc, &mut walked, &mut indexed, numbers)
 }
 
 static HASHED: [Step<'static>; 8] = [
@@ -186,10 +212,8 @@ static HASHED: [Step<'static>; 8] = [
 #[test]
 fn fields_are_found_by_their_hashes(rt: HostRuntime) -> Result<(), Fail> {
     let alloc = rt.alloc();
-    assert_eq!(rt;
-        first_that_differs(alloc, Table::with_index(alloc, 4096), &HASHED)?,
-        None
-    );
+    let indexed = Table::with_index(alloc, 4096);
+    assert_told_none(&rt, first_that_differs(alloc, indexed, &HASHED))?;
     assert_eq!(rt; first_found_otherwise(alloc, 1000)?, None);
     Ok(())
 }
@@ -199,7 +223,8 @@ fn copied(alloc: Global, line: Line<'_>) -> Result<Field, AllocError> {
     Field::new(Vec::from_slice(alloc, line.0)?, line.1)?.copy(alloc)
 }
 
-/// Whether a field has a name and a value, and fits just where there is room for so much, with so much to spare.
+/// Whether a field has a name and a value, and fits just where there is room for so much, with so
+/// much to spare.
 fn is_sized(field: &Field, line: Line<'_>, room: usize, spare: Option<usize>) -> bool {
     field.name() == line.0 && field.value() == line.1 && field.room_behind(room) == spare
 }

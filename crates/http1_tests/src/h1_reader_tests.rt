@@ -1,6 +1,6 @@
 //! Responses as they are read, in any cuts.
 
-use crate::lines::{Line, are_fields};
+use crate::lines::{Line, are_fields, assert_told_none, cut_at};
 use h1_reader::{Ended, Piece, Reader, ResponseFault, ResponseHead, Trailers};
 use hpack_table::Field;
 use std::alloc::{AllocError, Global};
@@ -52,10 +52,12 @@ fn fields_are_taken_out(rt: HostRuntime) -> Result<(), Fail> {
 fn are_taken_out(alloc: Global, text: &[u8], wanted: &[Line<'_>]) -> bool {
     let mut reader = Reader::new(alloc, false);
     let mut pieces = Vec::new(alloc);
-    if fault_at(&mut reader, text, &mut pieces).is_some() {
-        return false;
-    }
-    match pieces.pop() {
+    fault_at(&mut reader, text, &mut pieces).is_none() && is_head_of(pieces.pop(), wanted)
+}
+
+/// Whether a piece is a head of which these fields are taken out.
+fn is_head_of(piece: Option<Piece>, wanted: &[Line<'_>]) -> bool {
+    match piece {
         Some(Piece::Head(head)) => are_fields(&head.into_fields(), wanted),
         _ => false,
     }
@@ -76,13 +78,20 @@ fn trailers_are_taken_out(rt: HostRuntime) -> Result<(), Fail> {
 fn are_trailers_taken_out(alloc: Global, text: &[u8], wanted: &[Line<'_>]) -> bool {
     let mut reader = Reader::new(alloc, false);
     let mut pieces = Vec::new(alloc);
-    if fault_at(&mut reader, text, &mut pieces).is_some() {
-        return false;
-    }
-    match (pieces.pop(), pieces.pop(), pieces.pop()) {
-        (Some(Piece::Done), Some(Piece::Trailers(trailers)), Some(Piece::Body(_))) => {
-            are_fields(&trailers.into_fields(), wanted)
-        }
+    fault_at(&mut reader, text, &mut pieces).is_none() && are_last(&mut pieces, wanted)
+}
+
+/// Whether the last pieces are a body, trailers of which these fields are taken out, and the end.
+fn are_last(pieces: &mut Vec<Piece>, wanted: &[Line<'_>]) -> bool {
+    matches!(pieces.pop(), Some(Piece::Done))
+        && are_trailers_of(pieces.pop(), wanted)
+        && matches!(pieces.pop(), Some(Piece::Body(_)))
+}
+
+/// Whether a piece is trailers of which these fields are taken out.
+fn are_trailers_of(piece: Option<Piece>, wanted: &[Line<'_>]) -> bool {
+    match piece {
+        Some(Piece::Trailers(trailers)) => are_fields(&trailers.into_fields(), wanted),
         _ => false,
     }
 }

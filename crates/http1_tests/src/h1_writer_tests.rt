@@ -1,6 +1,6 @@
 //! Requests as they are written.
 
-use crate::lines::push_fields;
+use crate::lines::{assert_told_none, push_fields};
 use h1_writer::Sender;
 use hpack_table::Field;
 use request_rules::{RequestHead, check_head};
@@ -68,21 +68,26 @@ type Row = (
 
 /// Whether a request is written so, step by step.
 fn is_written(alloc: Global, row: Row) -> Result<bool, AllocError> {
-    let (lines, text, pieces, last) = row;
     let mut out = Vec::new(alloc);
-    let Some(mut sender) = started(alloc, lines, &mut out)? else {
-        return Ok(false);
-    };
+    match started(alloc, row.0, &mut out)? {
+        Some(mut sender) => is_written_by(&mut sender, &mut out, row),
+        None => Ok(false),
+    }
+}
+
+/// The same of a sender that is started, and what it wrote so far.
+fn is_written_by(sender: &mut Sender, out: &mut Vec<u8>, row: Row) -> Result<bool, AllocError> {
+    let (_, text, pieces, last) = row;
     if out.as_slice() != text {
         return Ok(false);
     }
     for (octets, added) in pieces {
-        if !adds(&mut sender, octets, &mut out, added)? {
+        if !adds(sender, octets, out, added)? {
             return Ok(false);
         }
     }
     out.clear();
-    Ok(finishes(&mut sender, &[], &mut out)? && out.as_slice() == last)
+    Ok(finishes(sender, &[], out)? && out.as_slice() == last)
 }
 
 /// The first request that is written in another way.
@@ -126,8 +131,7 @@ static STEPS: [Row; 3] = [
 
 #[test]
 fn bodies_go_out_as_they_come(rt: HostRuntime) -> Result<(), Fail> {
-    assert_eq!(rt; first_written_otherwise(rt.alloc(), &STEPS)?, None);
-    Ok(())
+    assert_told_none(&rt, first_written_otherwise(rt.alloc(), &STEPS))
 }
 
 /// A request: the text of its fields, the pieces of its body, and the whole text.
@@ -135,17 +139,22 @@ type Whole = (&'static [u8], &'static [&'static [u8]], &'static [u8]);
 
 /// Whether a request whose body comes in these pieces has this text.
 fn is_sent(alloc: Global, row: Whole) -> Result<bool, AllocError> {
-    let (lines, pieces, text) = row;
     let mut out = Vec::new(alloc);
-    let Some(mut sender) = started(alloc, lines, &mut out)? else {
-        return Ok(false);
-    };
+    match started(alloc, row.0, &mut out)? {
+        Some(mut sender) => is_sent_by(&mut sender, &mut out, row),
+        None => Ok(false),
+    }
+}
+
+/// The same of a sender that is started, and what it wrote so far.
+fn is_sent_by(sender: &mut Sender, out: &mut Vec<u8>, row: Whole) -> Result<bool, AllocError> {
+    let (_, pieces, text) = row;
     for piece in pieces {
-        if !pushes(&mut sender, piece, &mut out)? {
+        if !pushes(sender, piece, out)? {
             return Ok(false);
         }
     }
-    Ok(finishes(&mut sender, &[], &mut out)? && out.as_slice() == text)
+    Ok(finishes(sender, &[], out)? && out.as_slice() == text)
 }
 
 /// The first request that has another text.
@@ -193,8 +202,7 @@ static WHOLE_REQUESTS: [Whole; 6] = [
 
 #[test]
 fn requests_with_bodies(rt: HostRuntime) -> Result<(), Fail> {
-    assert_eq!(rt; first_sent_otherwise(rt.alloc(), &WHOLE_REQUESTS)?, None);
-    Ok(())
+    assert_told_none(&rt, first_sent_otherwise(rt.alloc(), &WHOLE_REQUESTS))
 }
 
 /// A request: the text of its fields, its body, the text of its trailers, and what is written behind its head.
@@ -202,18 +210,32 @@ type Trailing = (&'static [u8], &'static [u8], &'static [u8], &'static [u8]);
 
 /// Whether a request with a body and trailers has this text behind its head, and nothing may be added to it.
 fn is_sent_with_trailers(alloc: Global, row: Trailing) -> Result<bool, AllocError> {
-    let (lines, body, trailers, text) = row;
     let mut fields = Vec::new(alloc);
-    push_fields(alloc, &mut fields, trailers)?;
+    push_fields(alloc, &mut fields, row.2)?;
+    is_sent_behind(alloc, &fields, row)
+}
+
+/// The same with the fields of the trailers.
+fn is_sent_behind(alloc: Global, fields: &[Field], row: Trailing) -> Result<bool, AllocError> {
     let mut out = Vec::new(alloc);
-    let Some(mut sender) = started(alloc, lines, &mut out)? else {
-        return Ok(false);
-    };
+    match started(alloc, row.0, &mut out)? {
+        Some(mut sender) => is_ended_by(&mut sender, &mut out, fields, row),
+        None => Ok(false),
+    }
+}
+
+/// The same of a sender that is started, and what it wrote so far.
+fn is_ended_by(
+    sender: &mut Sender,
+    out: &mut Vec<u8>,
+    fields: &[Field],
+    row: Trailing,
+) -> Result<bool, AllocError> {
     let head = out.len();
-    if !pushes(&mut sender, body, &mut out)? || !finishes(&mut sender, &fields, &mut out)? {
+    if !pushes(sender, row.1, out)? || !finishes(sender, fields, out)? {
         return Ok(false);
     }
-    Ok(out.get(head..) == Some(text) && !sender.may_push(0) && !sender.may_finish())
+    Ok(out.get(head..) == Some(row.3) && !sender.may_push(0) && !sender.may_finish())
 }
 
 /// The first request whose trailers are written in another way.
@@ -262,8 +284,7 @@ static TRAILERS: [Trailing; 5] = [
 
 #[test]
 fn trailers_stand_behind_the_last_chunk(rt: HostRuntime) -> Result<(), Fail> {
-    assert_eq!(rt; first_trailing_otherwise(rt.alloc(), &TRAILERS)?, None);
-    Ok(())
+    assert_told_none(&rt, first_trailing_otherwise(rt.alloc(), &TRAILERS))
 }
 
 /// The text of the fields of a head that ends its stream, and what is written.
@@ -340,8 +361,7 @@ static HEADS: [HeadRow; 8] = [
 
 #[test]
 fn requests_of_heads_alone(rt: HostRuntime) -> Result<(), Fail> {
-    assert_eq!(rt; first_head_that_differs(rt.alloc(), &HEADS)?, None);
-    Ok(())
+    assert_told_none(&rt, first_head_that_differs(rt.alloc(), &HEADS))
 }
 
 /// A GET on a connection that is kept: another request may stand behind it.

@@ -4,7 +4,7 @@ ghost use Rattle.std.specs.Prelude.{◌≤◌, IfOk};
 ghost use Rattle.model.specs.Tables.{total_size};
 ghost use Rattle.model.specs.Limits.{largest_fields};
 
-use crate::lines::{Line, line_of};
+use crate::lines::{Line, assert_none, cut_at, line_of};
 use hpack_table::Field;
 use local_replies::{Cause, Opening, RoutePattern, are_malformed_trailers, judge_head};
 use request_rules::RequestHead;
@@ -51,11 +51,14 @@ fn route_of(alloc: Global, line: Line<'_>) -> Result<RoutePattern, AllocError> {
 /// The routes of a text. It has bars between them, and nothing where there is none.
 fn routes_of(alloc: Global, text: &[u8]) -> Result<Vec<RoutePattern>, AllocError> {
     let mut routes = Vec::new(alloc);
-    if text.is_empty() {
-        return Ok(routes);
-    }
-    for part in text.split(|octet| *octet == b'|') {
+    let mut rest = text;
+    for _place in 0..text.len() {
+        if rest.is_empty() {
+            break;
+        }
+        let (part, behind) = cut_at(rest, b'|');
         routes.push(route_of(alloc, line_of(part))?)?;
+        rest = behind;
     }
     Ok(routes)
 }
@@ -114,7 +117,7 @@ fn first_replied_otherwise() -> Option<usize> {
 
 #[test]
 fn causes_have_their_replies(rt: HostRuntime) {
-    assert_eq!(rt; first_replied_otherwise(), None);
+    assert_none(&rt, first_replied_otherwise());
 }
 
 /// Whether a request has these parts.
@@ -171,7 +174,7 @@ static CAUSES: [Row; 4] = [
 
 #[test]
 fn each_cause_is_told(rt: HostRuntime) -> Result<(), Fail> {
-    assert_eq!(rt; first_that_differs(rt.alloc(), &CAUSES)?, None);
+    assert_none(&rt, first_that_differs(rt.alloc(), &CAUSES)?);
     Ok(())
 }
 
@@ -216,7 +219,7 @@ static TWO_CAUSES: [Row; 6] = [
 
 #[test]
 fn the_first_of_two_causes_is_told(rt: HostRuntime) -> Result<(), Fail> {
-    assert_eq!(rt; first_that_differs(rt.alloc(), &TWO_CAUSES)?, None);
+    assert_none(&rt, first_that_differs(rt.alloc(), &TWO_CAUSES)?);
     Ok(())
 }
 
@@ -249,7 +252,7 @@ static MALFORMED: [Row; 4] = [
 
 #[test]
 fn what_is_malformed_is_not_answered(rt: HostRuntime) -> Result<(), Fail> {
-    assert_eq!(rt; first_that_differs(rt.alloc(), &MALFORMED)?, None);
+    assert_none(&rt, first_that_differs(rt.alloc(), &MALFORMED)?);
     Ok(())
 }
 
@@ -298,7 +301,7 @@ static MATCHING: [Row; 6] = [
 
 #[test]
 fn the_first_route_that_matches_is_taken(rt: HostRuntime) -> Result<(), Fail> {
-    assert_eq!(rt; first_that_differs(rt.alloc(), &MATCHING)?, None);
+    assert_none(&rt, first_that_differs(rt.alloc(), &MATCHING)?);
     Ok(())
 }
 
@@ -333,7 +336,7 @@ static WHOLE_SERVER: [Row; 4] = [
 
 #[test]
 fn the_whole_server_goes_with_all_paths(rt: HostRuntime) -> Result<(), Fail> {
-    assert_eq!(rt; first_that_differs(rt.alloc(), &WHOLE_SERVER)?, None);
+    assert_none(&rt, first_that_differs(rt.alloc(), &WHOLE_SERVER)?);
     Ok(())
 }
 
@@ -364,6 +367,6 @@ static TRAILERS: [TrailersRow; 7] = [
 
 #[test]
 fn trailers_end_a_request(rt: HostRuntime) -> Result<(), Fail> {
-    assert_eq!(rt; first_trailers_that_differ(rt.alloc(), &TRAILERS)?, None);
+    assert_none(&rt, first_trailers_that_differ(rt.alloc(), &TRAILERS)?);
     Ok(())
 }

@@ -1,7 +1,9 @@
 //! The rules of requests: heads, trailers, and the octets of bodies. What is expected comes from RFC 9113, section 8,
 //! RFC 9110, section 5, and what this project defines beside them: which schemes, authorities and lengths it takes.
 
-use crate::lines::{Line, are_fields, line_of, push_field, push_fields};
+use crate::lines::{
+    Line, are_fields, assert_none, assert_told_none, cut_at, line_of, push_field, push_fields,
+};
 use hpack_table::Field;
 use request_rules::{RequestHead, Rule, check_head, check_trailers};
 use std::alloc::{AllocError, Global};
@@ -54,7 +56,13 @@ fn push_head_with(
     line: Line<'_>,
 ) -> Result<(), AllocError> {
     let mut stands = false;
-    for text in HEAD.split(|octet| *octet == b'|') {
+    let mut rest = HEAD;
+    for _place in 0..HEAD.len() {
+        if rest.is_empty() {
+            break;
+        }
+        let (text, behind) = cut_at(rest, b'|');
+        rest = behind;
         let other = line_of(text);
         let is_there = other.0 == line.0;
         push_field(alloc, fields, if is_there { line } else { other })?;

@@ -71,10 +71,20 @@ fn shown_of(alloc: Global, pieces: &[Piece], ended: Ended) -> Result<Vec<u8>, Al
 fn told(alloc: Global, to_head: bool, texts: &[&[u8]]) -> Result<Vec<u8>, AllocError> {
     let mut reader = Reader::new(alloc, to_head);
     let mut pieces = Vec::new(alloc);
-    if first_fault(&mut reader, texts, &mut pieces).is_some() {
+    told_by(alloc, &mut reader, &mut pieces, texts)
+}
+
+/// The same of a reader and pieces that are lent.
+fn told_by(
+    alloc: Global,
+    reader: &mut Reader,
+    pieces: &mut Vec<Piece>,
+    texts: &[&[u8]],
+) -> Result<Vec<u8>, AllocError> {
+    if first_fault(reader, texts, pieces).is_some() {
         return Ok(Vec::new(alloc));
     }
-    shown_of(alloc, &pieces, reader.end())
+    shown_of(alloc, pieces, reader.end())
 }
 
 /// Whether the front of a text has no fault, and the end of the connection makes it whole or short.
@@ -300,6 +310,5 @@ fn first_told_otherwise(alloc: Global) -> Result<Option<usize>, AllocError> {
 
 #[test]
 fn in_pieces(rt: HostRuntime) -> Result<(), Fail> {
-    assert_eq!(rt; first_told_otherwise(rt.alloc())?, None);
-    Ok(())
+    assert_told_none(&rt, first_told_otherwise(rt.alloc()))
 }

@@ -103,8 +103,7 @@ static LONG_HEADS: [Row<'static>; 4] = [
 
 #[test]
 fn long_heads(rt: HostRuntime) -> Result<(), Fail> {
-    assert_eq!(rt; first_that_differs(rt.alloc(), &LONG_HEADS)?, None);
-    Ok(())
+    assert_told_none(&rt, first_that_differs(rt.alloc(), &LONG_HEADS))
 }
 
 /// 100 fields are taken, and 101 are too many; 8 interim heads, and 9; a length of 18 digits, and of 19.
@@ -190,8 +189,7 @@ static COUNTS: [Row<'static>; 11] = [
 
 #[test]
 fn counts_of_a_head(rt: HostRuntime) -> Result<(), Fail> {
-    assert_eq!(rt; first_that_differs(rt.alloc(), &COUNTS)?, None);
-    Ok(())
+    assert_told_none(&rt, first_that_differs(rt.alloc(), &COUNTS))
 }
 
 /// 8 digits of a size are taken, and 9 are too many; 256 octets of an extension, and 257; 256 spaces, and 257.
@@ -249,8 +247,7 @@ static CHUNK_LINES: [Row<'static>; 7] = [
 
 #[test]
 fn long_chunk_lines(rt: HostRuntime) -> Result<(), Fail> {
-    assert_eq!(rt; first_that_differs(rt.alloc(), &CHUNK_LINES)?, None);
-    Ok(())
+    assert_told_none(&rt, first_that_differs(rt.alloc(), &CHUNK_LINES))
 }
 
 /// Trailers of 16,384 octets are taken, and the 16,385th octet is one too many; 100 fields, and 101.
@@ -308,8 +305,7 @@ static TRAILERS: [Row<'static>; 7] = [
 
 #[test]
 fn long_trailers(rt: HostRuntime) -> Result<(), Fail> {
-    assert_eq!(rt; first_that_differs(rt.alloc(), &TRAILERS)?, None);
-    Ok(())
+    assert_told_none(&rt, first_that_differs(rt.alloc(), &TRAILERS))
 }
 
 /// How many octets of a body the pieces have.
@@ -327,15 +323,20 @@ fn octets_of(pieces: &[Piece]) -> usize {
 fn octets_in_pieces(alloc: Global, text: &[u8]) -> Option<usize> {
     let mut reader = Reader::new(alloc, false);
     let mut pieces = Vec::new(alloc);
+    octets_by(&mut reader, &mut pieces, text)
+}
+
+/// The same of a reader and pieces that are lent.
+fn octets_by(reader: &mut Reader, pieces: &mut Vec<Piece>, text: &[u8]) -> Option<usize> {
     for part in text.chunks(999) {
-        if fault_at(&mut reader, part, &mut pieces).is_some() {
+        if fault_at(reader, part, pieces).is_some() {
             return None;
         }
     }
     if reader.end() != Ended::Complete {
         return None;
     }
-    Some(octets_of(&pieces))
+    Some(octets_of(pieces))
 }
 
 /// A chunk of 70,000 octets comes as it is, in pieces of 999 octets.

@@ -24,10 +24,13 @@ fn is_name(alloc: Global, part: &[u8], name: &[u8]) -> Result<bool, AllocError> 
 
 /// Whether the value of a field Connection names a name.
 fn names(alloc: Global, value: &[u8], name: &[u8]) -> Result<bool, AllocError> {
-    for part in value.split(|octet| *octet == b',') {
+    let mut rest = value;
+    for _place in 0..value.len() {
+        let (part, behind) = cut_at(rest, b',');
         if is_name(alloc, part, name)? {
             return Ok(true);
         }
+        rest = behind;
     }
     Ok(false)
 }
@@ -155,10 +158,13 @@ fn are_alike(fields: &[Field], others: &[Field]) -> bool {
 
 /// Whether the first piece of a text is a head with these fields.
 fn has_fields(alloc: Global, text: &[u8], wanted: &[Field]) -> bool {
+    let mut reader = Reader::new(alloc, false);
     let mut pieces = Vec::new(alloc);
-    if fault_at(&mut Reader::new(alloc, false), text, &mut pieces).is_some() {
-        return false;
-    }
+    fault_at(&mut reader, text, &mut pieces).is_none() && begin_with(&pieces, wanted)
+}
+
+/// Whether the first piece is a head with these fields.
+fn begin_with(pieces: &[Piece], wanted: &[Field]) -> bool {
     match pieces.first() {
         Some(Piece::Interim(head)) => are_alike(head.fields(), wanted),
         Some(Piece::Head(head)) => are_alike(head.fields(), wanted),

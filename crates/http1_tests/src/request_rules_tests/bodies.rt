@@ -60,7 +60,7 @@ fn first_counted_otherwise() -> Option<usize> {
 
 #[test]
 fn bodies_are_as_long_as_declared(rt: HostRuntime) {
-    assert_eq!(rt; first_counted_otherwise(), None);
+    assert_none(&rt, first_counted_otherwise());
 }
 
 /// A call of a count, and what it answers.
@@ -116,6 +116,6 @@ static OF_ANY: [Call; 4] = [
 
 #[test]
 fn a_body_is_counted(rt: HostRuntime) {
-    assert_eq!(rt; first_answered_otherwise(Some(3), &OF_THREE), None);
-    assert_eq!(rt; first_answered_otherwise(None, &OF_ANY), None);
+    assert_none(&rt, first_answered_otherwise(Some(3), &OF_THREE));
+    assert_none(&rt, first_answered_otherwise(None, &OF_ANY));
 }

@@ -18,8 +18,7 @@ static SCHEMES: [Told; 11] = [
 
 #[test]
 fn schemes_are_two(rt: HostRuntime) -> Result<(), Fail> {
-    assert_eq!(rt; first_told_otherwise(rt.alloc(), &SCHEMES)?, None);
-    Ok(())
+    assert_told_none(&rt, first_told_otherwise(rt.alloc(), &SCHEMES))
 }
 
 static PATHS: [Told; 21] = [
@@ -96,9 +95,8 @@ static STARS: [Row; 9] = [
 
 #[test]
 fn paths_are_visible_from_a_slash_on(rt: HostRuntime) -> Result<(), Fail> {
-    assert_eq!(rt; first_told_otherwise(rt.alloc(), &PATHS)?, None);
-    assert_eq!(rt; first_that_differs(rt.alloc(), b"", &STARS)?, None);
-    Ok(())
+    assert_told_none(&rt, first_told_otherwise(rt.alloc(), &PATHS))?;
+    assert_told_none(&rt, first_that_differs(rt.alloc(), b"", &STARS))
 }
 
 static AUTHORITIES: [Told; 23] = [
@@ -129,8 +127,7 @@ static AUTHORITIES: [Told; 23] = [
 
 #[test]
 fn authorities_are_of_their_octets(rt: HostRuntime) -> Result<(), Fail> {
-    assert_eq!(rt; first_told_otherwise(rt.alloc(), &AUTHORITIES)?, None);
-    Ok(())
+    assert_told_none(&rt, first_told_otherwise(rt.alloc(), &AUTHORITIES))
 }
 
 static HOSTS: [Row; 23] = [
@@ -161,11 +158,7 @@ static HOSTS: [Row; 23] = [
 
 #[test]
 fn the_host_says_the_authority(rt: HostRuntime) -> Result<(), Fail> {
-    assert_eq!(rt;
-        first_that_differs(rt.alloc(), b":method=GET|:scheme=http|:path=/", &HOSTS)?,
-        None
-    );
-    Ok(())
+    assert_told_none(&rt, first_that_differs(rt.alloc(), b":method=GET|:scheme=http|:path=/", &HOSTS))
 }
 
 /// Heads that clients send, right and wrong.
@@ -249,8 +242,7 @@ static WHOLE_HEADS: [Row; 15] = [
 
 #[test]
 fn whole_heads_are_judged(rt: HostRuntime) -> Result<(), Fail> {
-    assert_eq!(rt; first_that_differs(rt.alloc(), b"", &WHOLE_HEADS)?, None);
-    Ok(())
+    assert_told_none(&rt, first_that_differs(rt.alloc(), b"", &WHOLE_HEADS))
 }
 
 /// Heads that break several rules: of each two that follow one another the first is told, where both are broken.
@@ -283,12 +275,8 @@ static FIRST_BROKEN_OF_HEADS: [Row; 3] = [
 
 #[test]
 fn the_first_broken_rule_is_told(rt: HostRuntime) -> Result<(), Fail> {
-    assert_eq!(rt; first_that_differs(rt.alloc(), HEAD, &FIRST_BROKEN)?, None);
-    assert_eq!(rt;
-        first_that_differs(rt.alloc(), b"", &FIRST_BROKEN_OF_HEADS)?,
-        None
-    );
-    Ok(())
+    assert_told_none(&rt, first_that_differs(rt.alloc(), HEAD, &FIRST_BROKEN))?;
+    assert_told_none(&rt, first_that_differs(rt.alloc(), b"", &FIRST_BROKEN_OF_HEADS))
 }
 
 /// A head with cookies that are joined and a tunnel, which has no path.
@@ -313,6 +301,5 @@ static WITH_PARTS: [Parts; 2] = [
 
 #[test]
 fn a_head_has_its_parts(rt: HostRuntime) -> Result<(), Fail> {
-    assert_eq!(rt; first_with_other_parts(rt.alloc(), &WITH_PARTS)?, None);
-    Ok(())
+    assert_told_none(&rt, first_with_other_parts(rt.alloc(), &WITH_PARTS))
 }

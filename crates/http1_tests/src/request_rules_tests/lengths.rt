@@ -82,12 +82,8 @@ static LENGTHS_OF_HEADS: [Row; 13] = [
 
 #[test]
 fn lengths_are_digits_once(rt: HostRuntime) -> Result<(), Fail> {
-    assert_eq!(rt; first_told_otherwise(rt.alloc(), &LENGTHS)?, None);
-    assert_eq!(rt;
-        first_that_differs(rt.alloc(), HEAD, &LENGTHS_OF_HEADS)?,
-        None
-    );
-    Ok(())
+    assert_told_none(&rt, first_told_otherwise(rt.alloc(), &LENGTHS))?;
+    assert_told_none(&rt, first_that_differs(rt.alloc(), HEAD, &LENGTHS_OF_HEADS))
 }
 
 /// The number that digits are read as.
@@ -124,8 +120,7 @@ fn length_of(alloc: Global, digits: &[u8]) -> Result<Option<u64>, AllocError> {
 
 #[test]
 fn lengths_are_read_in_base_ten(rt: HostRuntime) -> Result<(), Fail> {
-    assert_eq!(rt; first_read_otherwise(rt.alloc())?, None);
-    Ok(())
+    assert_told_none(&rt, first_read_otherwise(rt.alloc()))
 }
 
 /// Trailers, and the first rule that they break.
@@ -163,6 +158,5 @@ static TRAILERS: [TrailersRow; 29] = [
 
 #[test]
 fn trailers_keep_four_rules(rt: HostRuntime) -> Result<(), Fail> {
-    assert_eq!(rt; first_trailers_that_differ(rt.alloc(), &TRAILERS)?, None);
-    Ok(())
+    assert_told_none(&rt, first_trailers_that_differ(rt.alloc(), &TRAILERS))
 }

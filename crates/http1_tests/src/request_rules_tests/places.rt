@@ -88,12 +88,8 @@ static TOO_MANY_PSEUDO_FIELDS: [Row; 11] = [
 
 #[test]
 fn pseudo_fields_are_there_once_and_first(rt: HostRuntime) -> Result<(), Fail> {
-    assert_eq!(rt; first_that_differs(rt.alloc(), b"", &PSEUDO_FIELDS)?, None);
-    assert_eq!(rt;
-        first_that_differs(rt.alloc(), HEAD, &TOO_MANY_PSEUDO_FIELDS)?,
-        None
-    );
-    Ok(())
+    assert_told_none(&rt, first_that_differs(rt.alloc(), b"", &PSEUDO_FIELDS))?;
+    assert_told_none(&rt, first_that_differs(rt.alloc(), HEAD, &TOO_MANY_PSEUDO_FIELDS))
 }
 
 static TUNNELS: [Row; 15] = [
@@ -152,8 +148,7 @@ static TUNNELS: [Row; 15] = [
 
 #[test]
 fn tunnels_have_an_authority_alone(rt: HostRuntime) -> Result<(), Fail> {
-    assert_eq!(rt; first_that_differs(rt.alloc(), b"", &TUNNELS)?, None);
-    Ok(())
+    assert_told_none(&rt, first_that_differs(rt.alloc(), b"", &TUNNELS))
 }
 
 static CONNECTION_FIELDS: [Told; 16] = [
@@ -177,8 +172,7 @@ static CONNECTION_FIELDS: [Told; 16] = [
 
 #[test]
 fn no_field_speaks_of_the_connection(rt: HostRuntime) -> Result<(), Fail> {
-    assert_eq!(rt; first_told_otherwise(rt.alloc(), &CONNECTION_FIELDS)?, None);
-    Ok(())
+    assert_told_none(&rt, first_told_otherwise(rt.alloc(), &CONNECTION_FIELDS))
 }
 
 static TE: [Told; 12] = [
@@ -204,7 +198,6 @@ static TWO_TES: [Row; 3] = [
 
 #[test]
 fn te_says_trailers_alone(rt: HostRuntime) -> Result<(), Fail> {
-    assert_eq!(rt; first_told_otherwise(rt.alloc(), &TE)?, None);
-    assert_eq!(rt; first_that_differs(rt.alloc(), HEAD, &TWO_TES)?, None);
-    Ok(())
+    assert_told_none(&rt, first_told_otherwise(rt.alloc(), &TE))?;
+    assert_told_none(&rt, first_that_differs(rt.alloc(), HEAD, &TWO_TES))
 }

@@ -7,7 +7,7 @@ use frames::View;
 use std::alloc::AllocError;
 use std::process::Abort;
 use std::test::*;
-use stream_state::{Standing, State};
+use stream_state::{Kind, Standing, State, Verdict};
 use streams::{Cause, Course, Reply};
 
 /// What goes out on stream 1, or comes to it.
@@ -192,7 +192,7 @@ fn first_that_differs(
     ended: bool,
     rows: &[Row<'_>],
 ) -> Result<Option<usize>, Fail> {
-    let mut connection = Connection::new(rt.alloc());
+    let mut connection = Connection::new(rt.alloc(), 0);
     first_behind_opening(&mut connection, ended, rows)
 }
 
@@ -367,8 +367,27 @@ fn assert_is_exhausted(rt: &impl Abort, connection: &mut Connection) -> Result<(
     Ok(())
 }
 
+/// On a connection that is drained a stream goes on that was opened, and no other is opened. The
+/// connection is spent once none is active.
+fn assert_is_drained(rt: &impl Abort, connection: &mut Connection) -> Result<(), AllocError> {
+    assert!(rt; serves(connection, 5, false)?);
+    assert_eq!(rt; connection.drain(), Some(5));
+    assert_eq!(rt; connection.drain(), None);
+    assert_eq!(rt; connection.verdict(7, Kind::Headers), Verdict::Discard);
+    assert!(rt; !connection.is_exhausted());
+    reset(connection, 5);
+    assert!(rt; connection.is_exhausted());
+    Ok(())
+}
+
+#[test]
+fn connections_are_drained(rt: HostRuntime) -> Result<(), Fail> {
+    assert_is_drained(&rt, &mut Connection::new(rt.alloc(), 0))?;
+    Ok(())
+}
+
 #[test]
 fn connections_are_exhausted(rt: HostRuntime) -> Result<(), Fail> {
-    assert_is_exhausted(&rt, &mut Connection::new(rt.alloc()))?;
+    assert_is_exhausted(&rt, &mut Connection::new(rt.alloc(), 0))?;
     Ok(())
 }

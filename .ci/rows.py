@@ -96,15 +96,18 @@ def rows_of(text, known):
             yield known[name]
 
 
+def rows_in(files):
+    """The rows of files, in their order."""
+    known = {}
+    for file in files:
+        with open(os.path.join(DATA, file)) as text:
+            yield from rows_of(text.read(), known)
+
+
 def rows(but=None):
     """All rows, file by file as `crates/transcripts/args` has them, but those of one file."""
-    known = {}
     with open(os.path.join(DATA, "../args")) as files:
-        for file in files.read().split():
-            with open(os.path.join(DATA, file)) as text:
-                found = list(rows_of(text.read(), known))
-            if file != but:
-                yield from found
+        yield from rows_in(file for file in files.read().split() if file != but)
 
 
 def config_of(row):

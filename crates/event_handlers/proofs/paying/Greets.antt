@@ -41,9 +41,9 @@ few_behind kept more none = few_by kept.untaken more (more == 0) none
 
 -- Where the connection isn't ended in place of a frame, memory was refused.
 pub memory_alone : {T : Type 0} {A : Type 0} (r : Result T Halt) → (A → ⊥) → IfErr r (λ e. IfOver e A) → IfErr r IsMemory
-memory_alone (Ok x) no over = tt
-memory_alone (Err stop.Memory) no over = tt
-memory_alone (Err stop.Over) no over = no over
+memory_alone (Ok x) never over = tt
+memory_alone (Err stop.Memory) never over = tt
+memory_alone (Err stop.Over) never over = never over
 
 module _ (setup : Setup) (kept mid : View) (more : ℕ) (is : more ≡ more_in kept) (outputs p : List Output) where
   -- The settings are sent.

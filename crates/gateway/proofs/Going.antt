@@ -320,7 +320,7 @@ module _ (setup : Setup) (old mid : Standing) (p : List Output) (log : List Step
       let phase_of : hap.phase ≡ phase.Frames = ap (λ (x : Standing). x.phase) r.keeps in
       let partial_of : hap.partial ≡ r.rest = ap (λ (x : Standing). x.partial) r.keeps in
       goes_to setup old log run stands (Client piece) admitted (came_in g.behind g.begins r.rest (Some hap.kept) t) q (no_event g.behind g.begins r.rest (Some hap.kept) t) (inr (no_event g.behind g.begins r.rest (Some hap.kept) t)) hap serves_behind
-      (ap is_open phase_of) (ap pending_in phase_of) settled c
+      (ap is_open phase_of) (ap (pending_in setup.more_room) phase_of) settled c
       (read_by g.behind g.begins r.rest (Some hap.kept) t (λ e. t.leaves))
       (subst (λ ph. IsReadIn ph hap.partial (client_in log ++ piece) (tape_of (c.moves ++ run))) (sym phase_of) (subst (λ x. IsBehind x (client_in log ++ piece) (tape_of (c.moves ++ run))) (sym partial_of) (subst (λ x. IsBehind r.rest (client_in log ++ piece) x) (sym tape) (on.kept t.leaves))))
       (ap breaches tape ∙ goes_unbroken (client_in log) piece (tape_of run) (tape_of c.moves) before.unbroken t.frames t.last r.rest t.broken c.came t.leaves)

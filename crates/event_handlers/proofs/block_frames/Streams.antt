@@ -194,7 +194,7 @@ module _ (setup : Setup) (book : Book) (noted : Noted) (kept : AreKept book.rows
         where
           -- a state with this book
           beside : State
-          beside = record { ledger = record { book = book; queue = [] }; offers = theory_responses.start; requests = theory_requests.start; tables = theory_header_tables.start setup.policy; windows = theory_receive_windows.kept_of theory_receive_windows.start }
+          beside = record { ledger = record { book = book; queue = [] }; offers = theory_responses.start; requests = theory_requests.start; tables = theory_header_tables.start setup.policy; windows = theory_receive_windows.kept_of (theory_receive_windows.start setup.more_room) }
 
           it_opens : opens ≡ true
           it_opens =

@@ -15,7 +15,7 @@ use Rattle.model.specs.ErrorTable.{fault_of, judged, unless_of_stream, grants_no
 use Rattle.model.specs.ErrorClause.{is_fatal}
 use Rattle.model.specs.Decoding.{Partial}
 use Rattle.theory_errors.specs.Summary.{Outline, Stream as Kept, Summary, carried_in}
-use Rattle.theory_errors.specs.Judging.{is_over_in, is_active_in, active_in, completed_in, rows_in, fault_on_in, fault_by_standing_in, malformed_in, misplaced_in, no_goaway_in, standing_in, stream_update_in, stream_data_in, window_in}
+use Rattle.theory_errors.specs.Judging.{is_over_in, is_active_in, active_in, completed_in, rows_in, fault_on_in, fault_by_standing_in, malformed_in, misplaced_in, no_goaway_in, standing_in, stream_update_in, stream_data_in, room_in, window_in}
 use Rattle.theory_errors.specs.Owing.{fault_in}
 use Rattle.theory_errors.specs.Rows.{Row, ids_of, find}
 use Rattle.theory_errors.specs.Quiet.{noted_of, coming}
@@ -162,7 +162,7 @@ of_rows (row ∷ rows) id kept there = by (row.id == id) refl (of_rows rows id k
 -- What comes on an active stream isn't discarded.
 pub active_not_discarded : (b : Book) (frame : Frame) → AreKept b.rows → is_active b.rows frame.id ≡ true → fault_in (summary_in b) (coming frame) ≡ Some Discarded → ⊥
 active_not_discarded b frame kept active is =
-    absurd (let no : true ≡ false = sym (ap is_discarded is) ∙ ap is_discarded whole ∙ none_of_rows (fault_by_standing_in s frame) (stream_update_in s frame) (stream_data_in s frame) (malformed_in outline s (coming frame)) standing (updates (is_active_in frame.id s && grants_nothing frame) (is_active_in frame.id s && grants_past (window_in s.first_size (s.stream frame.id)) frame)) (one flow_control_error (is_active_in frame.id s && is_past_room (s.stream frame.id).room frame)) (one protocol_error (not (is_some outline.cause) && is_malformed (carried_in outline) (completed_in s.block frame) (noted_of frame))) in cc)
+    absurd (let no : true ≡ false = sym (ap is_discarded is) ∙ ap is_discarded whole ∙ none_of_rows (fault_by_standing_in s frame) (stream_update_in s frame) (stream_data_in s frame) (malformed_in outline s (coming frame)) standing (updates (is_active_in frame.id s && grants_nothing frame) (is_active_in frame.id s && grants_past (window_in s.first_size (s.stream frame.id)) frame)) (one flow_control_error (is_active_in frame.id s && is_past_room (room_in s.own (s.stream frame.id)) frame)) (one protocol_error (not (is_some outline.cause) && is_malformed (carried_in outline) (completed_in s.block frame) (noted_of frame))) in cc)
   where
     s : Summary
     s = summary_in b

@@ -106,10 +106,11 @@ impl StreamTable {
         }
     }
 
-    /// Takes octets of DATA on an active stream, all of the payload, which its receiving room has
-    /// (RFC 9113, section 6.9.1), or trailers of 0 octets; no other stream changes. Behind them
-    /// this is the course of its request, and its client has ended it with them, or hasn't. Where
-    /// both sides have ended it then, it is over (RFC 9113, section 5.1).
+    /// Takes octets of DATA on an active stream, all of the payload, or trailers of 0 octets; no
+    /// other stream changes. What was given back on it is then at most a window's size less than
+    /// what came (RFC 9113, section 6.9.1). Behind them this is the course of its request, and its
+    /// client has ended it with them, or hasn't. Where both sides have ended it then, it is over
+    /// (RFC 9113, section 5.1).
     pub fn take(&mut self, id: u32, octets: u32, course: Course, ended: bool)
         requires live { is_active self.old id ≡ true }
         requires fits { (octets == 0) ≡ false → AreTakable octets (kept_of self.old id) }

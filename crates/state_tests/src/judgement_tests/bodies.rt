@@ -80,7 +80,7 @@ fn content_keeps_to_the_connections_window(rt: HostRuntime) -> Result<(), Fail> 
 
 /// Gives an octet back to the connection alone.
 fn give_back_one(connection: &mut Connection) {
-    if connection.room() < 1000000 {
+    if connection.room() < i64::from(connection.receiving_window()) {
         connection.gave_back(1);
     }
 }

@@ -62,7 +62,7 @@ fn takes(connection: &mut Connection, kind: u8, id: u32, payload: &[u8]) -> bool
 
 /// Gives octets back to the connection where it has room for them, and says whether it does.
 fn gives_back(connection: &mut Connection, octets: u32) -> bool {
-    if connection.room() > 2147483647 - i64::from(octets) {
+    if connection.room() + i64::from(octets) > i64::from(connection.receiving_window()) {
         return false;
     }
     connection.gave_back(octets);
@@ -284,11 +284,12 @@ static TABLES: [(&str, bool, &[Row]); 6] = [
         &[
             (Act::Come(4, 0, b""), true, &[]),
             (Act::Come(0, 1, b"abcde"), true, &[Of::Room(65530)]),
+            (Act::GiveBack(6), false, &[]),
             (Act::GiveBack(5), true, &[Of::Room(65535)]),
             (
                 Act::GiveBackOn(3),
                 true,
-                &[Of::Streams(&[Fact::Of(1, Seen::Room(65533))])],
+                &[Of::Streams(&[Fact::Of(1, Seen::Room(-2))])],
             ),
         ],
     ),

@@ -144,10 +144,12 @@ Fits rooms event = ⊤
 
 -- where contracts name what passes through sockets
 module _ {S : Type 0} (left held : S → Option (List ℕ)) where
-  -- Octets are put out to an upstream, unless what is written to it reaches nobody by now; then a front of them at most.
+  -- Octets are put out to an upstream, unless what is written to it reaches nobody by now; then a front of them at most. Where that was so before, nothing
+  -- is done.
   pub record Sends (octets : List ℕ) (old new : Upstream S) : Type 0 where
     pub front : SendsFront left held octets old new
     pub puts_out : GoesTo left held (put_news octets) old.side new.side ⊎ (is_deaf new ≡ true)
+    pub deaf : is_deaf old ≡ true → (new.side ≡ old.side) × (new.broken ≡ old.broken)
 
   -- What became of a connection is what an event of it tells; of one that failed only its number is told.
   abbrev pub GoesBy : Option Event → Upstream S → Upstream S → Type 0
@@ -160,12 +162,12 @@ module _ {S : Type 0} (left held : S → Option (List ℕ)) where
 
   -- What an output does to the client's socket and to the open connections, in the world of the
   -- client with this number. They are found by their numbers, which rise. A connection is opened to
-  -- the address of its route.
+  -- the address of its route, under a number that no open one has.
   abbrev pub Performs : ℕ → List SocketAddr → Output → Side S → List (Upstream S) → Side S → List (Upstream S) → Type 0
   Performs number addresses (Client octets) client upstreams client' upstreams' = Goes left held (put_news octets.items) client client'
       × (upstreams' ≡ upstreams)
   Performs number addresses (Open k route) client upstreams client' upstreams' = (client' ≡ client)
-      × Opens (IsNew number k (slice_get addresses route)) upstreams upstreams'
+      × Opens (IsNew number k (slice_get addresses route)) upstreams upstreams' × (AreRising upstreams → IsOpenNowhere k upstreams)
   Performs number addresses (Up k octets) client upstreams client' upstreams' = (client' ≡ client)
       × (AreRising upstreams → SendsTo k octets upstreams upstreams')
   Performs number addresses (Close k) client upstreams client' upstreams' = (client' ≡ client) × (AreRising upstreams → Closes k upstreams upstreams')

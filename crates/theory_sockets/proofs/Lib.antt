@@ -1,0 +1,4 @@
+pub mod Telling
+pub mod Passing
+pub mod Connecting
+pub mod Serving

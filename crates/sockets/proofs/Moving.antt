@@ -204,10 +204,10 @@ module _ {S : Type 0} (left held : S → Option (List ℕ)) where
   deaf_still octets upstream deaf = record { front = front_still octets upstream; puts_out = inr deaf; deaf = λ is. (refl, refl) }
 
   pub on_still : (upstream : Upstream S) → GoesOn left held no_news upstream upstream
-  on_still upstream = record { number = refl; address = refl; goes = to_still upstream.side; deaf = λ is. is }
+  on_still upstream = record { number = refl; address = refl; goes = to_still upstream.side; deaf = λ is. is; broken = λ is. is }
 
   pub on_lost : (old new : Upstream S) → GoesOn left held no_news old new → GoesOn left held lost_news old new
-  on_lost old new goes = record { number = goes.number; address = goes.address; goes = to_lost old.side new.side goes.goes; deaf = goes.deaf }
+  on_lost old new goes = record { number = goes.number; address = goes.address; goes = to_lost old.side new.side goes.goes; deaf = goes.deaf; broken = goes.broken }
 
   pub on_twice : (came : Option (List ℕ)) (ended : Bool) (took : ℕ) (old mid new : Upstream S) → GoesOn left held no_news old mid
       → GoesOn left held (record { came = came; ended = ended; put = []; took = took }) mid new → GoesOn left held (record { came = came; ended = ended; put = []; took = took }) old new
@@ -217,11 +217,12 @@ module _ {S : Type 0} (left held : S → Option (List ℕ)) where
         address = second.address ∙ first.address;
         goes = to_twice came ended took old.side mid.side new.side first.goes second.goes;
         deaf = λ is. second.deaf (first.deaf is);
+        broken = λ is. second.broken (first.broken is);
       }
 
   -- Where it is listed says nothing of how it went on.
   pub on_listed : (news : News) (old mid new : Upstream S) → GoesOn left held news old mid → {b d : Bool} → new ≡ record mid { is_queued = b; is_listed = d } → GoesOn left held news old new
-  on_listed news old mid new goes is = subst (GoesOn left held news old) (sym is) (record { number = goes.number; address = goes.address; goes = goes.goes; deaf = goes.deaf })
+  on_listed news old mid new goes is = subst (GoesOn left held news old) (sym is) (record { number = goes.number; address = goes.address; goes = goes.goes; deaf = goes.deaf; broken = goes.broken })
 
   pub by_listed : (event : Option Event) (old mid new : Upstream S) → GoesBy left held event old mid → {b d : Bool} → new ≡ record mid { is_queued = b; is_listed = d } → GoesBy left held event old new
   by_listed None old mid new goes is = on_listed no_news old mid new goes is
@@ -243,7 +244,7 @@ module _ {S : Type 0} (left held : S → Option (List ℕ)) where
   to_told_lost came ended (Some old) (Some new) goes = told_lost came ended old new goes
 
   on_told_lost : (came : Option (List ℕ)) (ended : Bool) (old new : Upstream S) → GoesOn left held (record { came = came; ended = ended; put = []; took = 0 }) old new → GoesOn left held lost_news old new
-  on_told_lost came ended old new goes = record { number = goes.number; address = goes.address; goes = to_told_lost came ended old.side new.side goes.goes; deaf = goes.deaf }
+  on_told_lost came ended old new goes = record { number = goes.number; address = goes.address; goes = to_told_lost came ended old.side new.side goes.goes; deaf = goes.deaf; broken = goes.broken }
 
   -- What was read is lost, where it isn't told in the end.
   pub by_lost : (event : Option Event) (k : ℕ) (old new : Upstream S) → IfSome event (IsOf k) → is_failed event ≡ false → GoesBy left held event old new → GoesOn left held lost_news old new
@@ -263,6 +264,7 @@ module _ {S : Type 0} (left held : S → Option (List ℕ)) where
         address = ap (λ (w : Upstream S). w.address) is;
         goes = subst (λ w. GoesTo left held news u.side w) (sym (ap (λ (w : Upstream S). w.side) is)) (subst (λ w. GoesTo left held news w (Some new)) (sym was) goes);
         deaf = λ deaf. ap is_deaf is ∙ (ap (λ b. u.broken || b) (lost ∙ sym (ap is_lost was)) ∙ deaf);
+        broken = λ broken. ap (λ (w : Upstream S). w.broken) is ∙ broken;
       }
 
   told_end : (broken : Bool) (k : ℕ) (u v : Upstream S) (side new : Side S) → u.side ≡ Some side → v ≡ record u { side = Some new } → new.lost ≡ side.lost → Goes left held end_news side new

@@ -81,12 +81,14 @@ module _ {S : Type 0} (left held : S → Option (List ℕ)) where
   GoesTo news (Some side) None = ⊥
   GoesTo news (Some side) (Some new) = Goes news side new
 
-  -- A connection is there still, and what became of it is what is told. Where what is written to it reaches nobody, that stays so.
+  -- A connection is there still, and what became of it is what is told. Where what is written to it reaches nobody, that stays so, and so does that a write
+  -- failed.
   pub record GoesOn (news : News) (old new : Upstream S) : Type 0 where
     pub number : new.k ≡ old.k
     pub address : new.address ≡ old.address
     pub goes : GoesTo news old.side new.side
     pub deaf : is_deaf old ≡ true → is_deaf new ≡ true
+    pub broken : old.broken ≡ true → new.broken ≡ true
 
   -- Of the octets that are put out to a side a front is.
   pub record GoesFront (octets : List ℕ) (old new : Side S) : Type 0 where

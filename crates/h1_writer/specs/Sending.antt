@@ -83,6 +83,11 @@ MayPush (Counting left) count = count ≤ left
 MayPush (Holding octet) count = count ≡ 0
 MayPush Chunking count = Unit {0}
 
+-- the most octets that are written for octets of the body, at a stage: those of a chunk, or these themselves
+abbrev pub most_pushed : Stage → List ℕ → ℕ
+most_pushed Chunking octets = length (chunk_text octets)
+most_pushed stage octets = length octets
+
 -- the text may be ended
 abbrev pub MayFinish : Stage → Type 0
 MayFinish Whole = ⊥

@@ -1,6 +1,6 @@
 //! Numbers as digits.
 
-ghost use Rattle.std.specs.Prelude.{◌≡◌, ◌<◌, ◌++◌, OnOk, decimal, take, length};
+ghost use Rattle.std.specs.Prelude.{◌≡◌, ◌<◌, ◌≤◌, ◌+◌, ◌++◌, OnOk, OnErr, decimal, take, length, vec_len, vec_capacity};
 ghost use Rattle.model.specs.Http1Text.{hex_digit, hex_size};
 
 use std::alloc::AllocError;
@@ -34,6 +34,9 @@ fn hex_digit(digit: u8) -> u8
 pub fn push_hex(number: usize, out: &mut Vec<u8>) -> Result<(), AllocError>
     ensures ok { OnOk result (out.new.items ≡ out.old.items ++ hex_size number) }
     ensures kept { take (length out.old.items) out.new.items ≡ out.old.items }
+    ensures room { OnOk result (vec_len out.new ≡ vec_len out.old + length (hex_size number)) }
+    ensures capacity { vec_capacity out.old ≤ vec_capacity out.new }
+    ensures full { OnErr result (vec_capacity out.old < vec_len out.old + length (hex_size number)) }
 {
     if number == 0 {
         return Ok(());

@@ -1,8 +1,8 @@
 //! A request as it is sent.
 
-ghost use Rattle.std.specs.Prelude.{◌≡◌, ◌<◌, ◌++◌, [], ◌∷◌, ℕ, List, true, false, OnOk, OnErr, IfOk, MatchBool, length, take, drop, ◌+◌, ◌≤◌};
+ghost use Rattle.std.specs.Prelude.{◌≡◌, ◌<◌, ◌++◌, [], ◌∷◌, ℕ, List, true, false, OnOk, OnErr, IfOk, MatchBool, length, take, drop, ◌+◌, ◌≤◌, vec_len, vec_capacity};
 ghost use Rattle.model.specs.Http2.{HasLength};
-ghost use Rattle.h1_writer.specs.Sending.{Sending, Continues, MayPush, MayFinish, head_of, Begins};
+ghost use Rattle.h1_writer.specs.Sending.{Sending, Continues, MayPush, MayFinish, head_of, Begins, most_pushed};
 ghost use Rattle.model.specs.Http1Text.{chunk_text, last_chunk};
 ghost use Rattle.h1_writer.specs.Views.{stage_of};
 ghost use Rattle.h1_writer.specs.Sending.Stage.{Whole, Chunking};
@@ -100,6 +100,7 @@ fn begin(declared: Option<u64>, ended: bool, text: &mut Vec<u8>) -> Waiting
 fn push_chunk_parts(octets: &[u8], out: &mut Vec<u8>) -> Result<(), AllocError>
     ensures ok { OnOk result (out.new.items ≡ out.old.items ++ chunk_text octets.now) }
     ensures kept { take (length out.old.items) out.new.items ≡ out.old.items }
+    ensures full { OnErr result (vec_capacity out.old < vec_len out.old + length (chunk_text octets.now)) }
 {
     numbers::push_hex(octets.len(), out)?;
     out.extend_from_slice(b"\r\n")?;
@@ -112,6 +113,7 @@ fn push_chunk_parts(octets: &[u8], out: &mut Vec<u8>) -> Result<(), AllocError>
 fn push_chunk(octets: &[u8], out: &mut Vec<u8>) -> Result<(), AllocError>
     ensures ok { OnOk result (out.new.items ≡ out.old.items ++ chunk_text octets.now) }
     ensures refused { OnErr result (out.new.items ≡ out.old.items) }
+    ensures full { OnErr result (vec_capacity out.old < vec_len out.old + length (chunk_text octets.now)) }
 {
     let start = out.len();
     let result = push_chunk_parts(octets, out);
@@ -165,6 +167,9 @@ impl Sender {
         ensures ok { OnOk result ((written : List ℕ) × (out.new.items ≡ out.old.items ++ written) × Continues self.old written octets.now [] self.new) }
         ensures goes_on { self.new ≡ Whole → ⊥ }
         ensures refused { OnErr result ((out.new.items ≡ out.old.items) × (self.new ≡ self.old)) }
+
+        // It fails only where the vector had to grow.
+        ensures full { OnErr result (vec_capacity out.old < vec_len out.old + most_pushed self.old octets.now) }
     {
         let [front @ .., last] = octets else {
             return Ok(());

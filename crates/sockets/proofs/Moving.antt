@@ -15,7 +15,7 @@ use Rattle.driver.specs.declared.world.WorldFault.{WorldFault}
 use Rattle.sockets.specs.declared.side.Side.{Side}
 use Rattle.sockets.specs.declared.upstream.Upstream.{Upstream}
 use Rattle.mio.specs.declared.event.event.Event.{Event as Report}
-use Rattle.sockets.specs.Sides.{News, no_news, lost_news, came_news, end_news, took_news, is_deaf, IsOf, Tells, Goes, GoesTo, GoesOn, GoesFrontTo, SendsFront, noted}
+use Rattle.sockets.specs.Sides.{News, no_news, lost_news, came_news, end_news, took_news, is_deaf, is_lost, IsOf, Tells, Goes, GoesTo, GoesOn, GoesFrontTo, SendsFront, noted}
 use Rattle.sockets.specs.Performed.{AreRising, IsNumbered, Opens, Changes, Sends, AllGoOn, OneGoesOn, OneIsDropped, OthersGoOn, GoesBy, MovesOn, client_told, got_news, IsWithin, is_failed}
 use Rattle.sockets.proofs.Passed.{reads_nothing, keeps_reads, reads_after, end_before, passes_still, passes_twice, no_front, appends_nothing}
 use Rattle.sockets.proofs.Performing.{one_fewer, one_changed}
@@ -201,22 +201,28 @@ module _ {S : Type 0} (left held : S → Option (List ℕ)) where
 
   -- Nothing is put out to one that nothing reaches any more.
   pub deaf_still : (octets : List ℕ) (upstream : Upstream S) → is_deaf upstream ≡ true → Sends left held octets upstream upstream
-  deaf_still octets upstream deaf = record { front = front_still octets upstream; puts_out = inr deaf }
+  deaf_still octets upstream deaf = record { front = front_still octets upstream; puts_out = inr deaf; deaf = λ is. (refl, refl) }
 
   pub on_still : (upstream : Upstream S) → GoesOn left held no_news upstream upstream
-  on_still upstream = record { number = refl; address = refl; goes = to_still upstream.side }
+  on_still upstream = record { number = refl; address = refl; goes = to_still upstream.side; deaf = λ is. is; broken = λ is. is }
 
   pub on_lost : (old new : Upstream S) → GoesOn left held no_news old new → GoesOn left held lost_news old new
-  on_lost old new goes = record { number = goes.number; address = goes.address; goes = to_lost old.side new.side goes.goes }
+  on_lost old new goes = record { number = goes.number; address = goes.address; goes = to_lost old.side new.side goes.goes; deaf = goes.deaf; broken = goes.broken }
 
   pub on_twice : (came : Option (List ℕ)) (ended : Bool) (took : ℕ) (old mid new : Upstream S) → GoesOn left held no_news old mid
       → GoesOn left held (record { came = came; ended = ended; put = []; took = took }) mid new → GoesOn left held (record { came = came; ended = ended; put = []; took = took }) old new
   on_twice came ended took old mid new first second =
-      record { number = second.number ∙ first.number; address = second.address ∙ first.address; goes = to_twice came ended took old.side mid.side new.side first.goes second.goes }
+      record {
+        number = second.number ∙ first.number;
+        address = second.address ∙ first.address;
+        goes = to_twice came ended took old.side mid.side new.side first.goes second.goes;
+        deaf = λ is. second.deaf (first.deaf is);
+        broken = λ is. second.broken (first.broken is);
+      }
 
   -- Where it is listed says nothing of how it went on.
   pub on_listed : (news : News) (old mid new : Upstream S) → GoesOn left held news old mid → {b d : Bool} → new ≡ record mid { is_queued = b; is_listed = d } → GoesOn left held news old new
-  on_listed news old mid new goes is = subst (GoesOn left held news old) (sym is) (record { number = goes.number; address = goes.address; goes = goes.goes })
+  on_listed news old mid new goes is = subst (GoesOn left held news old) (sym is) (record { number = goes.number; address = goes.address; goes = goes.goes; deaf = goes.deaf; broken = goes.broken })
 
   pub by_listed : (event : Option Event) (old mid new : Upstream S) → GoesBy left held event old mid → {b d : Bool} → new ≡ record mid { is_queued = b; is_listed = d } → GoesBy left held event old new
   by_listed None old mid new goes is = on_listed no_news old mid new goes is
@@ -238,7 +244,7 @@ module _ {S : Type 0} (left held : S → Option (List ℕ)) where
   to_told_lost came ended (Some old) (Some new) goes = told_lost came ended old new goes
 
   on_told_lost : (came : Option (List ℕ)) (ended : Bool) (old new : Upstream S) → GoesOn left held (record { came = came; ended = ended; put = []; took = 0 }) old new → GoesOn left held lost_news old new
-  on_told_lost came ended old new goes = record { number = goes.number; address = goes.address; goes = to_told_lost came ended old.side new.side goes.goes }
+  on_told_lost came ended old new goes = record { number = goes.number; address = goes.address; goes = to_told_lost came ended old.side new.side goes.goes; deaf = goes.deaf; broken = goes.broken }
 
   -- What was read is lost, where it isn't told in the end.
   pub by_lost : (event : Option Event) (k : ℕ) (old new : Upstream S) → IfSome event (IsOf k) → is_failed event ≡ false → GoesBy left held event old new → GoesOn left held lost_news old new
@@ -251,32 +257,34 @@ module _ {S : Type 0} (left held : S → Option (List ℕ)) where
   by_lost (Some ClientEnd) k old new is stays goes = absurd is
   by_lost (Some (ClientTook count)) k old new is stays goes = absurd is
 
-  with_side : (news : News) (u v : Upstream S) (side new : Side S) → u.side ≡ Some side → v ≡ record u { side = Some new } → Goes left held news side new → GoesOn left held news u v
-  with_side news u v side new was is goes =
+  with_side : (news : News) (u v : Upstream S) (side new : Side S) → u.side ≡ Some side → v ≡ record u { side = Some new } → new.lost ≡ side.lost → Goes left held news side new → GoesOn left held news u v
+  with_side news u v side new was is lost goes =
       record {
         number = ap (λ (w : Upstream S). w.k) is;
         address = ap (λ (w : Upstream S). w.address) is;
         goes = subst (λ w. GoesTo left held news u.side w) (sym (ap (λ (w : Upstream S). w.side) is)) (subst (λ w. GoesTo left held news w (Some new)) (sym was) goes);
+        deaf = λ deaf. ap is_deaf is ∙ (ap (λ b. u.broken || b) (lost ∙ sym (ap is_lost was)) ∙ deaf);
+        broken = λ broken. ap (λ (w : Upstream S). w.broken) is ∙ broken;
       }
 
-  told_end : (broken : Bool) (k : ℕ) (u v : Upstream S) (side new : Side S) → u.side ≡ Some side → v ≡ record u { side = Some new } → Goes left held end_news side new
+  told_end : (broken : Bool) (k : ℕ) (u v : Upstream S) (side new : Side S) → u.side ≡ Some side → v ≡ record u { side = Some new } → new.lost ≡ side.lost → Goes left held end_news side new
       → GoesBy left held (Some (if broken then UpFailed k else UpEnd k)) u v
-  told_end true k u v side new was is goes = ap (λ (w : Upstream S). w.k) is
-  told_end false k u v side new was is goes = with_side end_news u v side new was is goes
+  told_end true k u v side new was is lost goes = ap (λ (w : Upstream S). w.k) is
+  told_end false k u v side new was is lost goes = with_side end_news u v side new was is lost goes
 
-  told_nothing : (over : Bool) (k : ℕ) (u v : Upstream S) (side new : Side S) → u.side ≡ Some side → v ≡ record u { side = Some new } → Goes left held no_news side new
+  told_nothing : (over : Bool) (k : ℕ) (u v : Upstream S) (side new : Side S) → u.side ≡ Some side → v ≡ record u { side = Some new } → new.lost ≡ side.lost → Goes left held no_news side new
       → GoesBy left held (if over then Some (UpFailed k) else None) u v
-  told_nothing true k u v side new was is goes = ap (λ (w : Upstream S). w.k) is
-  told_nothing false k u v side new was is goes = with_side no_news u v side new was is goes
+  told_nothing true k u v side new was is lost goes = ap (λ (w : Upstream S). w.k) is
+  told_nothing false k u v side new was is lost goes = with_side no_news u v side new was is lost goes
 
   -- What a read of an upstream gave is told.
-  pub read_goes : (got : Result Got Error) (told : Result (Option Event) WorldFault) (k : ℕ) (broken lost : Bool) (u v : Upstream S) (side new : Side S) → u.side ≡ Some side → v ≡ record u { side = Some new }
+  pub read_goes : (got : Result Got Error) (told : Result (Option Event) WorldFault) (k : ℕ) (broken lost : Bool) (u v : Upstream S) (side new : Side S) → u.side ≡ Some side → v ≡ record u { side = Some new } → new.lost ≡ side.lost
       → Tells k broken lost got told → IfOk got (λ g. Goes left held (got_news g) side new) → IfOk told (λ event. GoesBy left held event u v)
-  read_goes (Ok (Octets octets)) said k broken lost u v side new was is tells goes = subst (λ r. IfOk r (λ event. GoesBy left held event u v)) (sym tells) (with_side (came_news octets.items) u v side new was is goes)
-  read_goes (Ok End) said k broken lost u v side new was is tells goes = subst (λ r. IfOk r (λ event. GoesBy left held event u v)) (sym tells) (told_end broken k u v side new was is goes)
-  read_goes (Ok Nothing) said k broken lost u v side new was is tells goes = subst (λ r. IfOk r (λ event. GoesBy left held event u v)) (sym tells) (told_nothing (broken || lost) k u v side new was is goes)
-  read_goes (Err error) (Err fault) k broken lost u v side new was is tells goes = tt
-  read_goes (Err error) (Ok event) k broken lost u v side new was is tells goes =
+  read_goes (Ok (Octets octets)) said k broken lost u v side new was is same tells goes = subst (λ r. IfOk r (λ event. GoesBy left held event u v)) (sym tells) (with_side (came_news octets.items) u v side new was is same goes)
+  read_goes (Ok End) said k broken lost u v side new was is same tells goes = subst (λ r. IfOk r (λ event. GoesBy left held event u v)) (sym tells) (told_end broken k u v side new was is same goes)
+  read_goes (Ok Nothing) said k broken lost u v side new was is same tells goes = subst (λ r. IfOk r (λ event. GoesBy left held event u v)) (sym tells) (told_nothing (broken || lost) k u v side new was is same goes)
+  read_goes (Err error) (Err fault) k broken lost u v side new was is same tells goes = tt
+  read_goes (Err error) (Ok event) k broken lost u v side new was is same tells goes =
       subst (λ r. IfOk r (λ event. GoesBy left held event u v)) (sym (tells.1 (λ memory. let no : false ≡ true = tells.0 memory in cc))) (ap (λ (w : Upstream S). w.k) is)
 
   pub all_still : (us : List (Upstream S)) → AllGoOn left held no_news us us

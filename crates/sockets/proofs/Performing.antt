@@ -42,7 +42,7 @@ module _ {S : Type 0} where
   pub listed : (left held : S → Option (List ℕ)) (from mid to : Upstream S) (octets : List ℕ) → Sends left held octets from mid → to ≡ record mid { is_queued = to.is_queued; is_listed = to.is_listed } → Sends left held octets from to
   listed left held from mid to octets sends is =
       subst (Sends left held octets from) (sym is)
-      (record { front = record { number = sends.front.number; address = sends.front.address; front = sends.front.front }; puts_out = sends.puts_out })
+      (record { front = record { number = sends.front.number; address = sends.front.address; front = sends.front.front }; puts_out = sends.puts_out; deaf = sends.deaf })
 
   pub new_listed : (number k : ℕ) (address : Option SocketAddr) (mid new : Upstream S) → IsNew number k address mid → {b d : Bool} → new ≡ record mid { is_queued = b; is_listed = d } → IsNew number k address new
   new_listed number k address mid new is same = subst (IsNew number k address) (sym same) (record { number = is.number; address_is = is.address_is; begun = is.begun; whole = is.whole })

@@ -144,10 +144,12 @@ Fits rooms event = ⊤
 
 -- where contracts name what passes through sockets
 module _ {S : Type 0} (left held : S → Option (List ℕ)) where
-  -- Octets are put out to an upstream, unless what is written to it reaches nobody by now; then a front of them at most.
+  -- Octets are put out to an upstream, unless what is written to it reaches nobody by now; then a front of them at most. Where that was so before, nothing
+  -- is done.
   pub record Sends (octets : List ℕ) (old new : Upstream S) : Type 0 where
     pub front : SendsFront left held octets old new
     pub puts_out : GoesTo left held (put_news octets) old.side new.side ⊎ (is_deaf new ≡ true)
+    pub deaf : is_deaf old ≡ true → (new.side ≡ old.side) × (new.broken ≡ old.broken)
 
   -- What became of a connection is what an event of it tells; of one that failed only its number is told.
   abbrev pub GoesBy : Option Event → Upstream S → Upstream S → Type 0

@@ -56,6 +56,15 @@ Reads left left' (Some came) = Consumes left left' came
 abbrev pub IsSilent : News → Type 0
 IsSilent news = IfSome news.came (λ came. came ≡ []) × (news.ended ≡ false) × (news.took ≡ 0)
 
+-- both directions are over
+abbrev pub is_lost : {S : Type 0} → Option (Side S) → Bool
+is_lost None = false
+is_lost (Some side) = side.lost
+
+-- what is written to it reaches nobody
+abbrev pub is_deaf : {S : Type 0} → Upstream S → Bool
+is_deaf upstream = upstream.broken || is_lost upstream.side
+
 -- where contracts name what passes through sockets
 module _ {S : Type 0} (left held : S → Option (List ℕ)) where
   -- What became of a side is what is told of it: no octets were read but those, nor its end but where that is told, and of what it took so many are told of.
@@ -72,11 +81,14 @@ module _ {S : Type 0} (left held : S → Option (List ℕ)) where
   GoesTo news (Some side) None = ⊥
   GoesTo news (Some side) (Some new) = Goes news side new
 
-  -- A connection is there still, and what became of it is what is told.
+  -- A connection is there still, and what became of it is what is told. Where what is written to it reaches nobody, that stays so, and so does that a write
+  -- failed.
   pub record GoesOn (news : News) (old new : Upstream S) : Type 0 where
     pub number : new.k ≡ old.k
     pub address : new.address ≡ old.address
     pub goes : GoesTo news old.side new.side
+    pub deaf : is_deaf old ≡ true → is_deaf new ≡ true
+    pub broken : old.broken ≡ true → new.broken ≡ true
 
   -- Of the octets that are put out to a side a front is.
   pub record GoesFront (octets : List ℕ) (old new : Side S) : Type 0 where
@@ -124,15 +136,6 @@ may_read most client = may_be_ready (Some client) && not (nat_lt most (length cl
 abbrev pub owes : {S : Type 0} → Option (Side S) → Bool
 owes None = false
 owes (Some side) = nat_lt 0 (length side.out.waiting + side.out.untold)
-
--- both directions are over
-abbrev pub is_lost : {S : Type 0} → Option (Side S) → Bool
-is_lost None = false
-is_lost (Some side) = side.lost
-
--- what is written to it reaches nobody
-abbrev pub is_deaf : {S : Type 0} → Upstream S → Bool
-is_deaf upstream = upstream.broken || is_lost upstream.side
 
 -- what is on its way out to a side
 abbrev pub out_of : {S : Type 0} → Option (Side S) → Option Way

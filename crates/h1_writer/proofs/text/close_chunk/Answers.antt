@@ -1,6 +1,6 @@
-use Rattle.std.proofs.Common.{rules, ◌≡◌, ◌+◌, ◌≤◌, ◌<◌, ◌++◌, List, ℕ, length, take, drop, ◌-◌, ◌^◌, [], ◌∷◌, codes, ap, ◌∙◌, append_assoc, arith}
+use Rattle.std.proofs.Common.{rules, ◌≡◌, ◌≤◌, ◌++◌, List, ℕ, length, take, drop, ◌-◌, codes, ap, ◌∙◌, append_assoc, arith}
 use Rattle.model.specs.Http1.{crlf}
-use Rattle.model.specs.Http1Text.{hex_size, chunk_text, last_chunk}
+use Rattle.model.specs.Http1Text.{hex_size, last_chunk}
 use Rattle.h1_writer.proofs.Closing as laws
 use Rattle.h1_writer.proofs.text.close_chunk.Goals as goal
 

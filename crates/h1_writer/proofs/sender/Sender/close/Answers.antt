@@ -1,4 +1,4 @@
-use Rattle.std.proofs.Common.{◌≡◌, ◌++◌, ◌<◌, List, ℕ, length, take, drop, arith, IfOk, Result, Ok, Err, sym}
+use Rattle.std.proofs.Common.{◌++◌, drop, IfOk, Result, Ok, Err}
 use Rattle.model.specs.Http1Text.{chunk_text, last_chunk}
 use Rattle.h1_writer.proofs.Stages as stages
 use Rattle.h1_writer.proofs.sender.Sender.close.Goals as goal

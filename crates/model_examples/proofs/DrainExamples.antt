@@ -1,12 +1,12 @@
 -- The operator asks for the end of the connection: a GOAWAY names the highest stream, later streams are discarded, and the client is
 -- closed once no stream is active (RFC 9113, section 6.8).
 use Rattle.std.proofs.Common.{◌≡◌, ℕ, Bool, true, false, not, ◌&&◌, nat_lt, List, [], ◌∷◌, ◌++◌, length, refl, ap, ◌∙◌, arith}
-use Rattle.std.specs.Prelude.{Some, None, codes, reverse}
+use Rattle.std.specs.Prelude.{Some, None, codes, reverse, sum_by}
 use Rattle.model.specs.Tables.{total_size}
 use Rattle.model.specs.Messages.Item.{Block, Content}
 use Rattle.model.specs.Frames.{Frame, settings_frame, goaway, no_error}
 use Rattle.model.specs.Logs.Event.{Up, Drain}
-use Rattle.model.specs.Logs.Act.{Close, CloseClient}
+use Rattle.model.specs.Logs.Act.{Open, Close, CloseClient}
 use Rattle.model.specs.Tapes.{Entry, sent}
 use Rattle.model.specs.Tapes.Entry.{Happened, Did}
 use Rattle.model.specs.Errors.Fault.{Discarded}
@@ -15,10 +15,16 @@ use Rattle.model.specs.Lifetimes.{opened, is_active, is_drained, is_full, opens_
 use Rattle.model.specs.Admission.{is_admitted, is_crowded}
 use Rattle.model.specs.Known.{Known}
 use Rattle.model.specs.Courses.{items, fault}
-use Rattle.model.specs.ErrorClause.{ErrorsHold, owed_by, owed, controls, must_end}
+use Rattle.model.specs.ErrorClause.{ErrorsHold, GoawaysComeFirst, owed_by, owed, controls, must_end}
+use Rattle.model.specs.RequestClause.{IsServed}
+use Rattle.model.specs.ProgressClause.{AreClosed, IsDoneWith}
+use Rattle.model.specs.ProgressClause.Reason.{ClientClosed}
+use Rattle.model.specs.Setup.Passing.{Whole}
 use Rattle.model.specs.FloodClause.{WouldGo}
 use Rattle.model.specs.FloodClause.WouldGo.{Owed}
-use Rattle.model_examples.proofs.RowTapes.{by_whole, frame, plain, headed, out, out_headed, get, get_block, next_get_block, post, post_block, begun, got, answer_text, ok_two, ok_block}
+use Rattle.model_examples.proofs.RowTapes.{by_whole, frame, plain, headed, out, out_headed, field, reset, get, get_block, next_get_block, post, post_block, begun, got, answer_text, ok_two, ok_block}
+use Rattle.model_examples.proofs.RequestRefusals.{without_items}
+use Rattle.model_examples.proofs.KeepExamples.{by_keeping, exchange, first_answered, kept_on}
 
 -- ---- while a stream is active
 
@@ -79,6 +85,11 @@ pub block_opens_none : opened (headed (frame 9 4 3 (132 ∷ 190 ∷ [])) get ∷
 unfolding total_size
 block_opens_none = refl
 
+-- Where no stream is active the connection is to end at once, and the rest of the block isn't waited for.
+pub ends_amid_a_block : must_end by_whole (out (goaway 0 no_error) ∷ Happened Drain ∷ plain (frame 1 1 1 (130 ∷ 134 ∷ [])) ∷ begun) ≡ true
+unfolding total_size
+ends_amid_a_block = refl
+
 -- ---- while an upload isn't whole: what comes of it is taken
 
 abbrev pub amid_upload : List Entry
@@ -95,6 +106,34 @@ upload_is_taken = refl
 pub upload_is_read : items by_whole 1 (plain (frame 0 1 1 (codes "hi")) ∷ amid_upload) ≡ Block post false ∷ Content (codes "hi") true ∷ []
 unfolding total_size
 upload_is_read = refl
+
+-- ---- amid the block of its trailers: the stream was opened, and they are its end
+
+abbrev pub amid_trailers : List Entry
+amid_trailers = out (goaway 1 no_error) ∷ Happened Drain ∷ plain (frame 1 1 1 (0 ∷ 3 ∷ codes "x-a")) ∷ headed (frame 1 4 1 post_block) post ∷ begun
+
+pub trailers_are_taken : fault by_whole amid_trailers (headed (frame 9 4 1 (1 ∷ codes "1")) (field (codes "x-a") (codes "1") ∷ [])) ≡ None
+unfolding total_size
+trailers_are_taken = refl
+
+pub trailers_are_read : items by_whole 1 (headed (frame 9 4 1 (1 ∷ codes "1")) (field (codes "x-a") (codes "1") ∷ []) ∷ amid_trailers) ≡ Block post false ∷ Block (field (codes "x-a") (codes "1") ∷ []) true ∷ []
+unfolding total_size
+trailers_are_read = refl
+
+-- ---- while a connection is idle: it is closed with the client, and not before
+
+-- no stream is active any more
+pub ends_with_one_idle : must_end by_keeping (out (goaway 1 no_error) ∷ Happened Drain ∷ first_answered) ≡ true
+unfolding total_size
+ends_with_one_idle = refl
+
+-- one is, whose body goes on
+abbrev pub idle_beside : List Entry
+idle_beside = out (goaway 3 no_error) ∷ Happened Drain ∷ headed (frame 1 4 3 (131 ∷ 134 ∷ 132 ∷ 190 ∷ [])) post ∷ first_answered
+
+pub goes_on_with_one_idle : must_end by_keeping idle_beside ≡ false
+unfolding total_size
+goes_on_with_one_idle = refl
 
 -- ---- behind the 10,000th stream: the client was told then
 
@@ -154,7 +193,49 @@ pub closes_early : ErrorsHold by_whole (Did CloseClient ∷ drained) → ⊥
 unfolding total_size
 closes_early h = let clash : true ≡ false = h.closed in cc
 
--- It takes another stream: none is active that was opened behind it.
-pub none_active : is_active 3 (headed (frame 1 5 3 next_get_block) get ∷ drained) ≡ false
+-- It names another stream than the highest, with which a client might take its request for one that is answered.
+pub names_another : ErrorsHold by_whole (out (goaway 3 no_error) ∷ Happened Drain ∷ got) → ⊥
+unfolding total_size
+names_another h = let clash : 176 ≡ 174 = ap (λ (fs : List Frame). sum_by (λ (f : Frame). sum_by (λ n. n) f.payload) fs) h.just_owed in omega (arith, clash)
+
+-- It does something else before it tells the client.
+pub acts_first : GoawaysComeFirst (Did (Close 1) ∷ Happened Drain ∷ got) → ⊥
+unfolding total_size
+acts_first h = let clash : 1 ≡ 0 = ap length h.0 in omega (arith, clash)
+
+-- It takes another stream: of one that isn't opened nothing is kept, so a connection for it has no head,
+abbrev pub another : List Entry
+another = headed (frame 1 5 3 next_get_block) get ∷ drained
+
+pub none_active : is_active 3 another ≡ false
 unfolding total_size
 none_active = refl
+
+pub takes_another : IsServed by_whole (Did (Open 2 0) ∷ another) (record { k = 2; route = 0; stream = 3 }) → ⊥
+unfolding total_size
+takes_another = without_items by_whole (Did (Open 2 0) ∷ another) (record { k = 2; route = 0; stream = 3 }) refl
+
+-- nor is it answered,
+pub answers_another : ErrorsHold by_whole (out_headed (frame 1 5 3 (137 ∷ [])) (field (codes ":status") (codes "204") ∷ []) ∷ another) → ⊥
+unfolding total_size
+answers_another h = let clash : false ≡ true = h.rightly_sent.0 in cc
+
+-- nor refused.
+pub refuses_another : ErrorsHold by_whole (out (reset 3 7) ∷ another) → ⊥
+unfolding total_size
+refuses_another h = let clash : 4 ≡ 3 = ap length h.just_owed in omega (arith, clash)
+
+-- It closes a connection that is idle before what was opened is answered,
+pub closes_idle_early : IsDoneWith by_keeping (Did (Close 1) ∷ idle_beside) 1 idle_beside → ⊥
+unfolding total_size
+closes_idle_early c =
+    let many = c.not_kept (kept_on Whole (Did (Close 1) ∷ idle_beside) (exchange 1 1) refl refl refl refl refl) in
+    let clash : 0 ≡ 1 = many.is_new in
+    omega (arith, clash)
+
+-- or leaves it open behind the end.
+pub leaves_idle_open : AreClosed by_keeping (Did CloseClient ∷ out (goaway 1 no_error) ∷ Happened Drain ∷ first_answered) → ⊥
+leaves_idle_open h =
+    let kept = h 1 refl (ClientClosed refl) in
+    let clash : true ≡ false = kept.goes_on in
+    cc

@@ -34,7 +34,7 @@ HERE = os.path.dirname(os.path.abspath(__file__))
 sys.path.insert(0, HERE)
 import rows  # noqa: E402
 
-FILES = "beginnings requests responses connections windows streaming request_trailers response_trailers configurations streams floods".split()
+FILES = "beginnings requests responses connections windows streaming request_trailers response_trailers configurations streams floods drains".split()
 CLOSE = b"\r\nconnection: close\r\n"
 # The gateway's reply 502, plain and inserted as Huffman text, and a reset by INTERNAL_ERROR.
 FAILED = re.compile(r"0803353032|48826c02|00000403000000[0-9a-f]{4}00000002")

@@ -96,15 +96,18 @@ def rows_of(text, known):
             yield known[name]
 
 
+def rows_in(files):
+    """The rows of files, in their order."""
+    known = {}
+    for file in files:
+        with open(os.path.join(DATA, file)) as text:
+            yield from rows_of(text.read(), known)
+
+
 def rows(but=None):
     """All rows, file by file as `crates/transcripts/args` has them, but those of one file."""
-    known = {}
     with open(os.path.join(DATA, "../args")) as files:
-        for file in files.read().split():
-            with open(os.path.join(DATA, file)) as text:
-                found = list(rows_of(text.read(), known))
-            if file != but:
-                yield from found
+        yield from rows_in(file for file in files.read().split() if file != but)
 
 
 def config_of(row):
@@ -126,15 +129,15 @@ def script_of(row):
     return "\n".join(keep + route + row.events)
 
 
-def says_idle(row):
-    """Whether the configuration of a row says how many connections may be idle. A script can't say
-    that, and the list of idle ones never grows."""
-    return re.search("^idle = ", config_of(row), re.MULTILINE) is not None
+def says_more(row):
+    """Whether the configuration of a row says how many connections may be idle, or how large
+    windows are. A script can't say that, and neither makes a list grow that doesn't grow else."""
+    return re.search("^(idle|window) = ", config_of(row), re.MULTILINE) is not None
 
 
 def scripts():
     """The scripts in which growths are refused, each once, in the order of the rows."""
-    found = (script_of(row) for row in rows(OLDER) if len(row.events) <= MOST_EVENTS and not says_idle(row))
+    found = (script_of(row) for row in rows(OLDER) if len(row.events) <= MOST_EVENTS and not says_more(row))
     return list(dict.fromkeys(script for script in found if len(script) <= MOST_CHARACTERS))
 
 

@@ -84,7 +84,7 @@ impl Client {
     fn new(alloc: Global) -> Option<Self> {
         Some(Client {
             routes: routes_of(alloc)?,
-            connection: Connection::new(alloc),
+            connection: Connection::new(alloc, 0),
             next: 1,
         })
     }

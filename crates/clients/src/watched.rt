@@ -33,7 +33,7 @@ fn note_event(exchanges: &mut Exchanges, event: &Event) -> Result<(), AllocError
             exchanges.take(*k);
             Ok(())
         }
-        Event::Client(_) | Event::ClientEnd | Event::ClientTook(_) => Ok(()),
+        Event::Client(_) | Event::ClientEnd | Event::ClientTook(_) | Event::Drain => Ok(()),
     }
 }
 

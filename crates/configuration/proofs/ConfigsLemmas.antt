@@ -9,7 +9,7 @@ use Rattle.gateway.specs.declared.config.Passing.{Passing}
 use Rattle.gateway.specs.declared.config.Route.{Route}
 use Rattle.configuration.specs.declared.faults.ConfigFault.{ConfigFault}
 use Rattle.configuration.specs.declared.faults.ConfigFault.TheVariants.{NotToml, Bad, UnknownKey, Memory}
-use Rattle.configuration.specs.Keys.{text_at, number_at, bool_at, array_at, IsPolicy, IsPassing, IsMost, IsKeep, IsIdle, AreTables}
+use Rattle.configuration.specs.Keys.{text_at, number_at, bool_at, array_at, IsPolicy, IsPassing, IsMost, IsKeep, IsIdle, IsWindow, AreTables}
 use Rattle.configuration.specs.Configs.{table_keys, route_names, has_only, has_known, AreRoutes, AreRight, HasUnknownKey, IsNoConfig, ConfiguresNothing, table_names}
 use Rattle.configuration.specs.Steps.{AreNoRoutes, is_only}
 use Rattle.configuration.proofs.RoutesLemmas.{routes_are_right, known_routes}
@@ -18,12 +18,12 @@ use Rattle.configuration.proofs.RoutesLemmas.{routes_are_right, known_routes}
 abbrev pub HasTables : Members → List Value → Type 0
 HasTables entries vs = (tables : List Members) × (map view vs ≡ map table tables) × AreTables (array_at (codes "route") entries) tables
 
-pub right_keys : (entries : Members) (policy : Policy) (passing : Passing) (body response : ℕ) (keep : Bool) (idle : ℕ) (vs : List Value)
+pub right_keys : (entries : Members) (policy : Policy) (passing : Passing) (body response : ℕ) (keep : Bool) (idle window : ℕ) (vs : List Value)
     → IsPolicy (text_at (codes "policy") entries) policy → IsPassing (text_at (codes "passing") entries) passing
     → IsMost (number_at (codes "max_body") entries) body → IsMost (number_at (codes "max_response") entries) response
-    → IsKeep (bool_at (codes "keep") entries) keep → IsIdle (number_at (codes "idle") entries) idle → HasTables entries vs → AreRight table_keys entries
-right_keys entries policy passing body response keep idle vs is_policy is_passing is_body is_response is_keep is_idle has =
-    ((policy, is_policy), ((passing, is_passing), ((body, is_body), ((response, is_response), ((keep, is_keep), ((idle, is_idle), ((has.0, has.2), tt)))))))
+    → IsKeep (bool_at (codes "keep") entries) keep → IsIdle (number_at (codes "idle") entries) idle → IsWindow (number_at (codes "window") entries) window → HasTables entries vs → AreRight table_keys entries
+right_keys entries policy passing body response keep idle window vs is_policy is_passing is_body is_response is_keep is_idle is_window has =
+    ((policy, is_policy), ((passing, is_passing), ((body, is_body), ((response, is_response), ((keep, is_keep), ((idle, is_idle), ((window, is_window), ((has.0, has.2), tt))))))))
 
 -- The routes' fault is the whole table's.
 pub routes_fault : (entries : Members) (vs : List Value) (fault : ConfigFault) → AreRight table_keys entries → HasTables entries vs

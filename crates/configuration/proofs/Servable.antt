@@ -1,16 +1,20 @@
 -- A gateway can be set up with what a table configures.
-use Rattle.std.proofs.Common.{◌≡◌, ◌≤◌, ℕ, ℤ, suc, Option, Some, None, List, [], ◌∷◌, length, map, refl, ap, ◌∙◌, arith}
+use Rattle.std.proofs.Common.{◌≡◌, ◌≤◌, ◌-◌, ℕ, ℤ, suc, Option, Some, None, List, [], ◌∷◌, length, map, refl, ap, ◌∙◌, arith}
 use Rattle.std.proofs.lemmas.List.{length-map}
 use Rattle.toml.specs.Data.{Members, Items}
 use Rattle.gateway.specs.Setups.{setup_of, route_of, IsServable}
 use Rattle.gateway.specs.declared.config.Config.{Config}
 use Rattle.gateway.specs.declared.config.Route.{Route}
 use Rattle.configuration.specs.Configs.{IsConfig, AreRoutes, Configures}
-use Rattle.configuration.specs.Keys.{IsMost, AreTables}
+use Rattle.configuration.specs.Keys.{IsMost, IsWindow, AreTables}
 
 most : (number : Option (Option ℤ)) (n : ℕ) → IsMost number n → n ≤ 1073741824
 most None n is = rw is (omega arith)
 most (Some number) n is = is.1
+
+more : (number : Option (Option ℤ)) (n : ℕ) → IsWindow number n → n - 65535 ≤ 983041
+more None n is = rw is (omega arith)
+more (Some number) n is = let most = is.2 in omega (arith, most)
 
 -- One route for each table, and few enough tables.
 as_many : (tables : List Members) (routes : List Route) → AreRoutes tables routes → length routes ≡ length tables
@@ -30,6 +34,7 @@ servable entries config is =
     record {
       body = most _ config.max_body is.max_body;
       response = most _ config.max_response is.max_response;
+      room = more _ config.window is.window;
       few = omega arith;
     }
 

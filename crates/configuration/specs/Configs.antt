@@ -9,12 +9,12 @@ use Rattle.configuration.specs.declared.faults.Key.TheVariants as key
 use Rattle.configuration.specs.declared.faults.ConfigFault.{ConfigFault}
 use Rattle.configuration.specs.declared.faults.ConfigFault.TheVariants.{NotToml, Bad, UnknownKey, Memory}
 use Rattle.configuration.specs.Lines.{name_of}
-use Rattle.configuration.specs.Keys.{text_at, number_at, bool_at, array_at, IsPolicy, IsPassing, IsMost, IsKeep, IsIdle}
+use Rattle.configuration.specs.Keys.{text_at, number_at, bool_at, array_at, IsPolicy, IsPassing, IsMost, IsKeep, IsIdle, IsWindow}
 use Rattle.configuration.specs.Keys.{AreTables, IsAuthority, IsPrefix, IsUpstream, IsRight}
 
 -- The keys in the order in which they are judged: those of the whole table, and those of each route.
 abbrev pub table_keys : List Key
-table_keys = key.Policy ∷ key.Passing ∷ key.MaxBody ∷ key.MaxResponse ∷ key.Keep ∷ key.Idle ∷ key.Route ∷ []
+table_keys = key.Policy ∷ key.Passing ∷ key.MaxBody ∷ key.MaxResponse ∷ key.Keep ∷ key.Idle ∷ key.Window ∷ key.Route ∷ []
 
 abbrev pub route_keys : List Key
 route_keys = key.Authority ∷ key.Prefix ∷ key.Upstream ∷ []
@@ -60,6 +60,7 @@ pub record IsConfig (entries : Members) (config : Config) : Type 0 where
   pub max_response : IsMost (number_at (codes "max_response") entries) config.max_response
   pub keep : IsKeep (bool_at (codes "keep") entries) config.keep
   pub idle : IsIdle (number_at (codes "idle") entries) config.idle
+  pub window : IsWindow (number_at (codes "window") entries) config.window
   pub tables : List Members
   pub are_tables : AreTables (array_at (codes "route") entries) tables
   pub routes : AreRoutes tables config.routes.items

@@ -63,6 +63,11 @@ abbrev pub IsIdle : Option (Option ℤ) → ℕ → Type 0
 IsIdle None idle = idle ≡ 8
 IsIdle (Some number) idle = (number ≡ Some (pos idle)) × (idle ≤ 100)
 
+-- `window`: 65,535 to 1,048,576, and 65,535 by default.
+abbrev pub IsWindow : Option (Option ℤ) → ℕ → Type 0
+IsWindow None window = window ≡ 65535
+IsWindow (Some number) window = (number ≡ Some (pos window)) × (65535 ≤ window) × (window ≤ 1048576)
+
 -- `route`: an array of tables, and none by default. A route's place is a number of 32 bits, so there are at most 4,294,967,295.
 abbrev pub AreTables : Option (Option Items) → List Members → Type 0
 AreTables None tables = tables ≡ []
@@ -89,6 +94,7 @@ IsRight entries key.MaxBody = (most : ℕ) × IsMost (number_at (codes "max_body
 IsRight entries key.MaxResponse = (most : ℕ) × IsMost (number_at (codes "max_response") entries) most
 IsRight entries key.Keep = (keep : Bool) × IsKeep (bool_at (codes "keep") entries) keep
 IsRight entries key.Idle = (idle : ℕ) × IsIdle (number_at (codes "idle") entries) idle
+IsRight entries key.Window = (window : ℕ) × IsWindow (number_at (codes "window") entries) window
 IsRight entries key.Route = (tables : List Members) × AreTables (array_at (codes "route") entries) tables
 IsRight entries key.Authority = (authority : List ℕ) × IsAuthority (text_at (codes "authority") entries) authority
 IsRight entries key.Prefix = (prefix : List ℕ) × IsPrefix (text_at (codes "prefix") entries) prefix

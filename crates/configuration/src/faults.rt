@@ -22,6 +22,8 @@ pub enum Key {
     Keep,
     /// How many of them may be idle.
     Idle,
+    /// The octets of receiving windows.
+    Window,
     /// The routes.
     Route,
     /// The authority of a route's requests.
@@ -59,6 +61,7 @@ impl ConfigFault {
             ConfigFault::Bad(Key::MaxResponse) => "config: bad max_response",
             ConfigFault::Bad(Key::Keep) => "config: bad keep",
             ConfigFault::Bad(Key::Idle) => "config: bad idle",
+            ConfigFault::Bad(Key::Window) => "config: bad window",
             ConfigFault::Bad(Key::Route) => "config: bad route",
             ConfigFault::Bad(Key::Authority) => "config: bad authority",
             ConfigFault::Bad(Key::Prefix) => "config: bad prefix",

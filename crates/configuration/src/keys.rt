@@ -5,8 +5,8 @@ ghost use Rattle.std.specs.List.{list_all};
 ghost use Rattle.toml.specs.Data.{Members, get_member, as_table, table as as_data};
 ghost use Rattle.toml.specs.View.{view, table_view};
 ghost use Rattle.configuration.specs.Keys.{text_at as the_text, number_at as the_number, bool_at as the_bool, IsPolicy};
-ghost use Rattle.configuration.specs.Keys.{IsPassing, IsMost, IsKeep, IsIdle, IsAuthority, IsPrefix, IsUpstream, array_at};
-ghost use Rattle.configuration.specs.Keys.{AreTables, Lacks};
+ghost use Rattle.configuration.specs.Keys.{IsPassing, IsMost, IsKeep, IsIdle, IsWindow, IsAuthority, IsPrefix, IsUpstream};
+ghost use Rattle.configuration.specs.Keys.{array_at, AreTables, Lacks};
 
 use gateway::{Passing, Policy};
 use std::net::SocketAddr;
@@ -108,6 +108,20 @@ pub fn idle_in(table: &Table) -> Option<u8>
         None => Some(8),
         Some(number) => match u8::try_from(number?) {
             Ok(idle) if idle <= 100 => Some(idle),
+            _ => None,
+        },
+    }
+}
+
+/// How many octets receiving windows have at first.
+pub fn window_in(table: &Table) -> Option<u32>
+    ensures { MatchOption result (Lacks (IsWindow (the_number (codes "window") (table_view table.now))))
+        (IsWindow (the_number (codes "window") (table_view table.now))) }
+{
+    match number_at(table, "window") {
+        None => Some(65535),
+        Some(number) => match u32::try_from(number?) {
+            Ok(window) if 65535 <= window && window <= 1_048_576 => Some(window),
             _ => None,
         },
     }

@@ -13,7 +13,7 @@ ghost use Rattle.configuration.specs.Steps.{IsNoRoute, AreNoRoutes, is_only};
 use crate::faults::{ConfigFault, Key};
 use crate::keys::{
     authority_in, idle_in, keep_in, most_in, passing_in, policy_in, prefix_in, routes_in,
-    upstream_in,
+    upstream_in, window_in,
 };
 use gateway::{Config, Route};
 use std::alloc::Global;
@@ -30,6 +30,8 @@ use toml::{Table, Value};
 ///   `true`.
 /// - `idle`, how many of them may be idle at once, beside those that serve a request: 0 to 100, and
 ///   8 by default. With 0 each is closed behind its response.
+/// - `window`, the octets that receiving windows have at first, those of streams and that of the
+///   connection: 65,535 to 1,048,576, and 65,535 by default.
 /// - `route`, an array of at most 4,294,967,295 tables, none by default, each with
 ///   - `authority`, that of the requests: a text, empty by default, which is any authority;
 ///   - `prefix`, what their paths begin with: a text that begins with `/`;
@@ -79,6 +81,9 @@ fn read_table(alloc: Global, table: &Table) -> Result<Config, ConfigFault>
     let Some(idle) = idle_in(table) else {
         return Err(ConfigFault::Bad(Key::Idle));
     };
+    let Some(window) = window_in(table) else {
+        return Err(ConfigFault::Bad(Key::Window));
+    };
     let Some(values) = routes_in(table) else {
         return Err(ConfigFault::Bad(Key::Route));
     };
@@ -100,6 +105,7 @@ fn read_table(alloc: Global, table: &Table) -> Result<Config, ConfigFault>
         max_response,
         keep,
         idle,
+        window,
     })
 }
 
@@ -148,7 +154,7 @@ fn is_table_key(name: &str) -> bool
 {
     matches!(
         name,
-        "policy" | "passing" | "max_body" | "max_response" | "keep" | "idle" | "route"
+        "policy" | "passing" | "max_body" | "max_response" | "keep" | "idle" | "window" | "route"
     )
 }
 

@@ -107,7 +107,7 @@ other_ignored frame other =
 
 -- a setup, where none matters
 pub any_setup : Setup
-any_setup = record { routes = []; policy = Policy.Plain; passing = Passing.Whole; max_body = 0; max_response = 0; keep = false; most_idle = 8 }
+any_setup = record { routes = []; policy = Policy.Plain; passing = Passing.Whole; max_body = 0; max_response = 0; keep = false; most_idle = 8; more_room = 0 }
 
 -- what is said of a record that is seen from inside, and of a frame by its parts
 pub moved : (P : Inbound → Frame → Type 0) (i j : Inbound) (f g : Frame) → i ≡ j → g ≡ f → P i f → P j g
@@ -169,15 +169,15 @@ told_not_none Q (Some f) fault is = tt
 
 module _ (i : Inbound) (flags id : ℕ) (payload : List ℕ) (of_stream : (id == 0) ≡ false) (sound : IsSound i (data_frame flags id payload)) where
   -- its fault on an idle stream, past the connection's window, and on another stream that isn't active
-  pub refused_idle : (idle : is_idle (standing i.rows id) ≡ true) → IsRefused i (data_frame flags id payload) (Connection (idle_refuses i.rows id of_stream idle).0)
+  pub refused_idle : (idle : is_idle (standing i.drained i.rows id) ≡ true) → IsRefused i (data_frame flags id payload) (Connection (idle_refuses i.drained i.rows id of_stream idle).0)
   refused_idle idle = record {
-    is = λ outside. data_idle (book_of outside i) flags id payload of_stream (sound outside) idle ∙ (idle_refuses i.rows id of_stream idle).1;
+    is = λ outside. data_idle (book_of outside i) flags id payload of_stream (sound outside) idle ∙ (idle_refuses i.drained i.rows id of_stream idle).1;
     mild = refl;
     inactive = λ no. absurd (let clash : true ≡ false = no in cc);
     fits = λ no. absurd (let clash : true ≡ false = no in cc);
   }
 
-  module _ (known : is_idle (standing i.rows id) ≡ false) where
+  module _ (known : is_idle (standing i.drained i.rows id) ≡ false) where
     pub refused_past : int_lt i.room (pos (length payload)) ≡ true → IsRefused i (data_frame flags id payload) (Connection flow_control_error)
     refused_past past = record {
       is = λ outside. data_past (book_of outside i) flags id payload of_stream (sound outside) known past;
@@ -186,10 +186,10 @@ module _ (i : Inbound) (flags id : ℕ) (payload : List ℕ) (of_stream : (id ==
       fits = λ no. absurd (let clash : true ≡ false = no in cc);
     }
 
-    pub refused_inactive : int_lt i.room (pos (length payload)) ≡ false → (idle : is_active i.rows id ≡ false) → IsRefused i (data_frame flags id payload) (inactive_refuses i.rows id of_stream idle).0
+    pub refused_inactive : int_lt i.room (pos (length payload)) ≡ false → (idle : is_active i.rows id ≡ false) → IsRefused i (data_frame flags id payload) (inactive_refuses i.drained i.rows id of_stream idle).0
     refused_inactive fits idle = record {
-      is = λ outside. data_inactive (book_of outside i) flags id payload of_stream (sound outside) known fits idle ∙ (inactive_refuses i.rows id of_stream idle).1;
-      mild = (inactive_refuses i.rows id of_stream idle).2;
+      is = λ outside. data_inactive (book_of outside i) flags id payload of_stream (sound outside) known fits idle ∙ (inactive_refuses i.drained i.rows id of_stream idle).1;
+      mild = (inactive_refuses i.drained i.rows id of_stream idle).2;
       inactive = λ mild. idle;
       fits = λ mild. fits;
     }

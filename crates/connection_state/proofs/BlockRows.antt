@@ -73,27 +73,27 @@ opens_so rows id n (answer.Connection code) is allows = absurd (cases (nat_lt n 
     cases false is = let no : Fails (Connection code) ≡ Fails (Stream refused_stream) = is in cc
 
 -- an odd id above all, which aren't all that are opened, may be opened
-may_open_so : (rows : List Row) (id : ℕ) → (id % 2 == 0) ≡ false → MayOpen rows id → may_open (ids_of rows) id ≡ true
+may_open_so : (rows : List Row) (id : ℕ) → (id % 2 == 0) ≡ false → MayOpen rows id → may_open false (ids_of rows) id ≡ true
 may_open_so rows id even may =
     let odd : (id % 2 == 1) ≡ true = eq-eqb (id % 2) 1 (let apart = eqb-false (id % 2) 0 even in omega (arith, apart)) in
     let room : nat_lt (length (ids_of rows)) most_streams ≡ true = lt-ltb (length (ids_of rows)) most_streams (subst (λ n. n < most_streams) (sym (length-map rows (λ (row : Row). row.id))) may.few) in
     and_from (id % 2 == 1 && list_all (λ other. nat_lt other id) (ids_of rows)) (nat_lt (length (ids_of rows)) most_streams) (and_from (id % 2 == 1) (list_all (λ other. nat_lt other id) (ids_of rows)) odd may.above) room
 
 -- Such a stream is active, or may be opened.
-pub wanted_by : (rows : List Row) (id : ℕ) (a : Answer) → (id == 0) ≡ false → verdict_in a ≡ asked.verdict rows id 1 → AllowsOpening a rows id → unless_of_stream (fault_of (asked.verdict rows id 1)) ≡ None → (fault_of (asked.verdict rows id 1) ≡ Some Discarded → ⊥) → IsOpenOrIdle rows id
+pub wanted_by : (rows : List Row) (id : ℕ) (a : Answer) → (id == 0) ≡ false → verdict_in a ≡ asked.verdict false rows id 1 → AllowsOpening a rows id → unless_of_stream (fault_of (asked.verdict false rows id 1)) ≡ None → (fault_of (asked.verdict false rows id 1) ≡ Some Discarded → ⊥) → IsOpenOrIdle rows id
 wanted_by rows id a of_stream is allows soft kept = elim (cases_Bool (has rows id)) [
   | inl there ↦
       let k : Kept = find rows id in
-      let st = ap (λ (s : Standing). fault_of (verdict (length (active_in rows)) s 1)) (opened_standing rows id of_stream there) in
+      let st = ap (λ (s : Standing). fault_of (verdict (length (active_in rows)) s 1)) (opened_standing false rows id of_stream there) in
       elim (soft_opened k.ended_by_client k.ended_by_gateway k.reset_by_client k.reset_by_gateway (ap unless_of_stream (sym st) ∙ soft)) [
         | inl discarded ↦ absurd (kept (st ∙ discarded))
         | inr on ↦ inl (and_from (has rows id) (not (is_over_in k)) there (ap not on))
       ]
   | inr none ↦
       let n : ℕ = length (active_in rows) in
-      let st = other_standing rows id of_stream none in
+      let st = other_standing false rows id of_stream none in
       let parts = soft_unopened n (is_above id (opened_in rows)) (length (opened_in rows) == most_streams) (id % 2 == 0) (ap (λ (s : Standing). unless_of_stream (fault_of (verdict n s 1))) (sym st) ∙ soft) in
-      let idle : asked.verdict rows id 1 ≡ idle_verdict n 1 =
+      let idle : asked.verdict false rows id 1 ≡ idle_verdict n 1 =
       ap (λ (s : Standing). verdict n s 1) st
       ∙ ap (λ x. verdict n (if x && length (opened_in rows) == most_streams then Standing.Beyond else (if id % 2 == 0 then Standing.ServerIdle else (if x then Standing.Idle else Standing.Skipped))) 1) parts.0
       ∙ ap (λ x. verdict n (if x then Standing.Beyond else (if id % 2 == 0 then Standing.ServerIdle else Standing.Idle)) 1) parts.1
@@ -104,22 +104,22 @@ wanted_by rows id a of_stream is allows soft kept = elim (cases_Bool (has rows i
 -- ---- where a stream is placed
 
 -- an active one may not be opened
-pub active_closed : (rows : List Row) (id : ℕ) → is_active rows id ≡ true → may_open (ids_of rows) id ≡ false
-active_closed rows id active = elim (cases_Bool (may_open (ids_of rows) id)) [
+pub active_closed : (drained : Bool) (rows : List Row) (id : ℕ) → is_active rows id ≡ true → may_open drained (ids_of rows) id ≡ false
+active_closed drained rows id active = elim (cases_Bool (may_open drained (ids_of rows) id)) [
   | inl may ↦
       let there = and_parts (has rows id) (not (is_over_in (find rows id))) active in
-      absurd (let no : true ≡ false = sym there.0 ∙ not_opened (ids_of rows) id may in cc)
+      absurd (let no : true ≡ false = sym there.0 ∙ not_opened drained (ids_of rows) id may in cc)
   | inr none ↦ none
 ]
 
 pub placed_active : (rows : List Row) (id : ℕ) (slot : Slot) → is_active rows id ≡ true → placed rows id slot ≡ changed id slot rows
-placed_active rows id slot active = ap (λ x. if x then record { id = id; slot = slot } ∷ rows else changed id slot rows) (active_closed rows id active)
+placed_active rows id slot active = ap (λ x. if x then record { id = id; slot = slot } ∷ rows else changed id slot rows) (active_closed false rows id active)
 
-pub placed_idle : (rows : List Row) (id : ℕ) (slot : Slot) → may_open (ids_of rows) id ≡ true → placed rows id slot ≡ record { id = id; slot = slot } ∷ rows
+pub placed_idle : (rows : List Row) (id : ℕ) (slot : Slot) → may_open false (ids_of rows) id ≡ true → placed rows id slot ≡ record { id = id; slot = slot } ∷ rows
 placed_idle rows id slot may = ap (λ x. if x then record { id = id; slot = slot } ∷ rows else changed id slot rows) may
 
 -- one that isn't active may be opened
-pub idle_of : (rows : List Row) (id : ℕ) → IsOpenOrIdle rows id → is_active rows id ≡ false → may_open (ids_of rows) id ≡ true
+pub idle_of : (rows : List Row) (id : ℕ) → IsOpenOrIdle rows id → is_active rows id ≡ false → may_open false (ids_of rows) id ≡ true
 idle_of rows id (inl active) idle = absurd (let no : true ≡ false = sym active ∙ idle in cc)
 idle_of rows id (inr may) idle = may
 
@@ -127,16 +127,16 @@ pub active_of : (rows : List Row) (id : ℕ) → has rows id ≡ true → is_ove
 active_of rows id there on = and_from (has rows id) (not (is_over_in (find rows id))) there (ap not on)
 
 -- it has no row, so nothing is known of it
-pub nothing_known : (rows : List Row) (id : ℕ) → may_open (ids_of rows) id ≡ true → find rows id ≡ fresh
-nothing_known rows id may = find_none rows id (not_opened (ids_of rows) id may)
+pub nothing_known : (rows : List Row) (id : ℕ) → may_open false (ids_of rows) id ≡ true → find rows id ≡ fresh
+nothing_known rows id may = find_none rows id (not_opened false (ids_of rows) id may)
 
 -- and is opened as `open` asks
-pub may_be_opened : (rows : List Row) (id : ℕ) → may_open (ids_of rows) id ≡ true → MayOpen rows id
+pub may_be_opened : (rows : List Row) (id : ℕ) → may_open false (ids_of rows) id ≡ true → MayOpen rows id
 may_be_opened rows id may =
     let parts = and_parts (id % 2 == 1 && list_all (λ other. nat_lt other id) (ids_of rows)) (nat_lt (length (ids_of rows)) most_streams) may in
     let both = and_parts (id % 2 == 1) (list_all (λ other. nat_lt other id) (ids_of rows)) parts.0 in
     record {
-      of_stream = not_zero (ids_of rows) id may;
+      of_stream = not_zero false (ids_of rows) id may;
       above = both.1;
       few = subst (λ n. n < most_streams) (length-map rows (λ (row : Row). row.id)) (ltb-true (length (ids_of rows)) most_streams parts.1);
     }
@@ -154,10 +154,10 @@ opened_so outline ends =
     ∙ ap (λ x. if x then Over false else Live (record fresh { ended_by_client = ends; outline = outline })) (and_right ends false refl)
 
 -- a slot is changed of the newest row alone, where no other has its id
-pub front_changed : (rows : List Row) (id : ℕ) (old new : Slot) → may_open (ids_of rows) id ≡ true → changed id new (record { id = id; slot = old } ∷ rows) ≡ record { id = id; slot = new } ∷ rows
+pub front_changed : (rows : List Row) (id : ℕ) (old new : Slot) → may_open false (ids_of rows) id ≡ true → changed id new (record { id = id; slot = old } ∷ rows) ≡ record { id = id; slot = new } ∷ rows
 front_changed rows id old new may =
     ap (λ x. (if x then record { id = id; slot = new } else record { id = id; slot = old }) ∷ changed id new rows) (eq-eqb id id refl)
-    ∙ ap (λ (rs : List Row). record { id = id; slot = new } ∷ rs) (none_changed rows (not_opened (ids_of rows) id may))
+    ∙ ap (λ (rs : List Row). record { id = id; slot = new } ∷ rs) (none_changed rows (not_opened false (ids_of rows) id may))
   where
     none_changed : (rs : List Row) → has rs id ≡ false → changed id new rs ≡ rs
     none_changed [] none = refl

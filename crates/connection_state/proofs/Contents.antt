@@ -1,4 +1,5 @@
 -- DATA that has no fault, by what is read of its stream.
+use Rattle.theory_errors.specs.Judging.{room_in}
 use Rattle.std.proofs.Common.{◌≡◌, ℕ, Bool, true, false, not, ◌&&◌, ◌+◌, ◌==◌, nat_lt, List, [], ◌∷◌, length, Option, Some, None, refl, sym, ◌∙◌, ap}
 use Rattle.std.specs.Prelude.{pos, ◌-ℤ◌, int_lt, is_some, option_map}
 use Rattle.model.specs.Frames.{Frame, ends_stream, content, protocol_error, flow_control_error, stream_closed}
@@ -25,17 +26,18 @@ use Rattle.connection_state.proofs.DataBehind.{data_taken, data_course}
 use Rattle.connection_state.proofs.Answering.{IsSound}
 
 -- The code that is read of its stream is that of its fault.
-pub by_code : (i : Inbound) (flags id : ℕ) (payload : List ℕ) (of_stream : (id == 0) ≡ false) → IsSound i (data_frame flags id payload) → IsAdmitted i (data_frame flags id payload) → (live : Kept) → find i.rows id ≡ live → (ends : Bool) → ends ≡ ends_stream (data_frame flags id payload) → (code : Option ℕ)
-    → option_map Stream code ≡ first_of (fault_if (int_lt live.room (pos (length payload))) (Stream flow_control_error) ∷ fault_if live.ended_by_client (Stream stream_closed) ∷ fault_if (is_malformed_with (content (data_frame flags id payload)) ends live.outline) (Stream protocol_error) ∷ [])
+pub by_code : (i : Inbound) (flags id : ℕ) (payload : List ℕ) (of_stream : (id == 0) ≡ false) → IsSound i (data_frame flags id payload) → IsAdmitted i (data_frame flags id payload) → (live : Kept) → find i.rows id ≡ live → (ends : Bool) → ends ≡ ends_stream (data_frame flags id payload) → (own : ℕ) → i.own ≡ own → (code : Option ℕ)
+    → option_map Stream code ≡ first_of (fault_if (int_lt (room_in own live) (pos (length payload))) (Stream flow_control_error) ∷ fault_if live.ended_by_client (Stream stream_closed) ∷ fault_if (is_malformed_with (content (data_frame flags id payload)) ends live.outline) (Stream protocol_error) ∷ [])
     → (outside : Outside) → fault_in (told_of outside i) (coming (data_frame flags id payload)) ≡ option_map Stream code
-by_code i flags id payload of_stream sound admitted live found ends told code is outside =
-    data_active (book_of outside i) flags id payload of_stream (sound outside) (active_known i.rows id of_stream admitted.active) admitted.fits admitted.active
-    ∙ ap (λ (k : Kept). by_rows k (ends_stream (data_frame flags id payload))) found
-    ∙ ap (λ x. by_rows live x) (sym told)
+by_code i flags id payload of_stream sound admitted live found ends told own same code is outside =
+    data_active (book_of outside i) flags id payload of_stream (sound outside) (active_known i.drained i.rows id of_stream admitted.active) admitted.fits admitted.active
+    ∙ ap (λ (k : Kept). by_rows i.own k (ends_stream (data_frame flags id payload))) found
+    ∙ ap (λ x. by_rows i.own live x) (sym told)
+    ∙ ap (λ n. by_rows n live ends) same
     ∙ sym is
   where
-    by_rows : Kept → Bool → Option Fault
-    by_rows k x = first_of (fault_if (int_lt k.room (pos (length payload))) (Stream flow_control_error) ∷ fault_if k.ended_by_client (Stream stream_closed) ∷ fault_if (is_malformed_with (content (data_frame flags id payload)) x k.outline) (Stream protocol_error) ∷ [])
+    by_rows : ℕ → Kept → Bool → Option Fault
+    by_rows n k x = first_of (fault_if (int_lt (room_in n k) (pos (length payload))) (Stream flow_control_error) ∷ fault_if k.ended_by_client (Stream stream_closed) ∷ fault_if (is_malformed_with (content (data_frame flags id payload)) x k.outline) (Stream protocol_error) ∷ [])
 
 -- the cause that octets of a body are is new, or none is
 replied_so : (old : Option Cause) (past : Bool) → (not (is_some old) && is_some (first_of_both old (cause_if past LargeBody))) ≡ true → (old ≡ None) × (first_of_both old (cause_if past LargeBody) ≡ Some LargeBody)

@@ -16,7 +16,7 @@ use Rattle.model.specs.ErrorTable.{judged, is_idle, is_headers, unless_of_stream
 use Rattle.model.specs.Limits.{most_resets}
 use Rattle.model.specs.ErrorClause.{is_fatal}
 use Rattle.theory_errors.specs.Summary.{Outline, Summary}
-use Rattle.theory_errors.specs.Judging.{completed_in, frame_rows_in, values_in, shift_in, shifts_past_in, connection_update_in, idle_in, connection_data_in, fault_on_in, fault_by_standing_in, standing_in, stream_update_in, stream_data_in, is_active_in, window_in, malformed_in, fault_for, resets_row_in, no_goaway_in}
+use Rattle.theory_errors.specs.Judging.{completed_in, frame_rows_in, values_in, shift_in, shifts_past_in, connection_update_in, idle_in, connection_data_in, fault_on_in, fault_by_standing_in, standing_in, stream_update_in, stream_data_in, is_active_in, window_in, malformed_in, fault_for, resets_row_in, no_goaway_in, room_in}
 use Rattle.theory_errors.specs.Owing.{fault_in}
 use Rattle.theory_errors.specs.After.{is_sound, grant}
 use Rattle.theory_errors.specs.Rows.{Row, ids_of, find}
@@ -94,7 +94,7 @@ module _ (s : Summary) (frame : Frame) (control : IsControl frame) where
       ∙ skip _ _ (ap unless_of_stream judged_none)
       ∙ skip _ _ (ap (λ b. first_of (fault_if (is_active_in frame.id s && (b && increment frame == 0)) (Stream protocol_error) ∷ fault_if (is_active_in frame.id s && (b && is_past (window_in s.first_size (s.stream frame.id) +ℤ pos (increment frame)))) (Stream flow_control_error) ∷ [])) control.no_update
       ∙ both_none (is_active_in frame.id s) (increment frame == 0) (is_past (window_in s.first_size (s.stream frame.id) +ℤ pos (increment frame))) (Stream protocol_error) (Stream flow_control_error))
-      ∙ skip _ _ (no_fault _ _ (ap (λ b. is_active_in frame.id s && (b && int_lt (s.stream frame.id).room (pos (length frame.payload)))) control.no_data ∙ and_right (is_active_in frame.id s) false refl))
+      ∙ skip _ _ (no_fault _ _ (ap (λ b. is_active_in frame.id s && (b && int_lt (room_in s.own (s.stream frame.id)) (pos (length frame.payload)))) control.no_data ∙ and_right (is_active_in frame.id s) false refl))
       ∙ skip _ _ judged_none
       ∙ skip _ _ (opens_no_last s frame)
       )

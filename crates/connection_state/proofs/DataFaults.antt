@@ -14,7 +14,7 @@ use Rattle.model.specs.Lifetimes.{state_by_ends}
 use Rattle.model.specs.WindowsOnTape.{increment, is_past}
 use Rattle.model.specs.ErrorTable.{fault_of, unless_of_stream, is_idle}
 use Rattle.theory_errors.specs.Summary.{Summary, Stream as Kept}
-use Rattle.theory_errors.specs.Judging.{frame_rows_in, is_over_in, no_goaway_in}
+use Rattle.theory_errors.specs.Judging.{frame_rows_in, is_over_in, no_goaway_in, room_in}
 use Rattle.theory_errors.specs.Owing.{fault_in}
 use Rattle.theory_errors.specs.Rows.{Row, find}
 use Rattle.theory_errors.specs.Book.{Book, summary_in}
@@ -73,13 +73,13 @@ back_false : (x : Bool) → not x ≡ true → x ≡ false
 back_false true is = absurd (let no : false ≡ true = is in cc)
 back_false false is = refl
 
-module _ (rows : List Row) (id : ℕ) (of_stream : (id == 0) ≡ false) where
+module _ (drained : Bool) (rows : List Row) (id : ℕ) (of_stream : (id == 0) ≡ false) where
   -- its fault by its stream's standing
   abbrev pub by_standing : Option Fault
-  by_standing = fault_of (asked.verdict rows id 0)
+  by_standing = fault_of (asked.verdict drained rows id 0)
 
-  pub idle_refuses : is_idle (standing rows id) ≡ true → (code : ℕ) × (by_standing ≡ Some (Connection code))
-  idle_refuses = idle_data (length (active_in rows)) (standing rows id)
+  pub idle_refuses : is_idle (standing drained rows id) ≡ true → (code : ℕ) × (by_standing ≡ Some (Connection code))
+  idle_refuses = idle_data (length (active_in rows)) (standing drained rows id)
 
   pub inactive_refuses : is_active rows id ≡ false → IsHard by_standing
   inactive_refuses idle = elim (cases_Bool (has rows id)) [
@@ -87,21 +87,21 @@ module _ (rows : List Row) (id : ℕ) (of_stream : (id == 0) ≡ false) where
         let k : Kept = find rows id in
         let over : is_over_in k ≡ true = back_true (is_over_in k) (sym (ap (λ x. x && not (is_over_in k)) there) ∙ idle) in
         let h = over_hard k.ended_by_client k.ended_by_gateway k.reset_by_client k.reset_by_gateway over in
-        (h.0, ap (λ (st : Standing). fault_of (verdict (length (active_in rows)) st 0)) (opened_standing rows id of_stream there) ∙ h.1, h.2)
+        (h.0, ap (λ (st : Standing). fault_of (verdict (length (active_in rows)) st 0)) (opened_standing drained rows id of_stream there) ∙ h.1, h.2)
     | inr none ↦
-        let h = unopened_hard (length (active_in rows)) (is_above id (opened_in rows)) (length (opened_in rows) == most_streams) (id % 2 == 0) in
-        (h.0, ap (λ (st : Standing). fault_of (verdict (length (active_in rows)) st 0)) (other_standing rows id of_stream none) ∙ h.1, h.2)
+        let h = unopened_hard (length (active_in rows)) (is_above id (opened_in rows)) (drained || length (opened_in rows) == most_streams) (id % 2 == 0) in
+        (h.0, ap (λ (st : Standing). fault_of (verdict (length (active_in rows)) st 0)) (other_standing drained rows id of_stream none) ∙ h.1, h.2)
   ]
 
   module _ (active : is_active rows id ≡ true) where
-    pub active_known : is_idle (standing rows id) ≡ false
-    active_known = ap is_idle (opened_standing rows id of_stream (and_parts (has rows id) (not (is_over_in (find rows id))) active).0)
+    pub active_known : is_idle (standing drained rows id) ≡ false
+    active_known = ap is_idle (opened_standing drained rows id of_stream (and_parts (has rows id) (not (is_over_in (find rows id))) active).0)
 
     pub active_by_client : by_standing ≡ fault_if (find rows id).ended_by_client (Stream stream_closed)
     active_by_client =
         let k : Kept = find rows id in
         let parts = and_parts (has rows id) (not (is_over_in k)) active in
-        ap (λ (st : Standing). fault_of (verdict (length (active_in rows)) st 0)) (opened_standing rows id of_stream parts.0)
+        ap (λ (st : Standing). fault_of (verdict (length (active_in rows)) st 0)) (opened_standing drained rows id of_stream parts.0)
         ∙ active_data k.ended_by_client k.ended_by_gateway k.reset_by_client k.reset_by_gateway (back_false (is_over_in k) parts.1)
 
 -- ---- the rows of the error table
@@ -118,14 +118,14 @@ module _ (b : Book) (flags id : ℕ) (payload : List ℕ) (of_stream : (id == 0)
   kept = find b.rows id
 
   abbrev standing_fault : Option Fault
-  standing_fault = by_standing b.rows id of_stream
+  standing_fault = by_standing b.drained b.rows id of_stream
 
   -- it goes past the windows, of the connection and of its stream
   abbrev past : Bool
   past = int_lt b.room (pos (length payload))
 
   abbrev past_own : Bool
-  past_own = int_lt kept.room (pos (length payload))
+  past_own = int_lt (room_in b.own kept) (pos (length payload))
 
   -- the rows that matter
   abbrev rows_from : Bool → Bool → Option Fault → Bool → List (Option Fault)
@@ -139,14 +139,14 @@ module _ (b : Book) (flags id : ℕ) (payload : List ℕ) (of_stream : (id == 0)
       ∷ o
       ∷ []
 
-  data_rows : first_of (later_rows s frame) ≡ first_of (rows_from (is_idle (standing b.rows id)) past standing_fault (is_active b.rows id && past_own))
+  data_rows : first_of (later_rows s frame) ≡ first_of (rows_from (is_idle (standing b.drained b.rows id)) past standing_fault (is_active b.rows id && past_own))
   data_rows =
-      ap (λ x. first_of (first_of (fault_if (x && (false && increment frame == 0)) (Connection protocol_error) ∷ fault_if (x && (false && is_past (b.window +ℤ pos (increment frame)))) (Connection flow_control_error) ∷ []) ∷ (if is_idle (standing b.rows id) && true then standing_fault else None) ∷ None ∷ fault_if past (Connection flow_control_error) ∷ None ∷ unless_of_stream standing_fault
+      ap (λ x. first_of (first_of (fault_if (x && (false && increment frame == 0)) (Connection protocol_error) ∷ fault_if (x && (false && is_past (b.window +ℤ pos (increment frame)))) (Connection flow_control_error) ∷ []) ∷ (if is_idle (standing b.drained b.rows id) && true then standing_fault else None) ∷ None ∷ fault_if past (Connection flow_control_error) ∷ None ∷ unless_of_stream standing_fault
       ∷ first_of (fault_if (is_active b.rows id && false) (Stream protocol_error) ∷ fault_if (is_active b.rows id && false) (Stream flow_control_error) ∷ []) ∷ fault_if (is_active b.rows id && past_own) (Stream flow_control_error) ∷ standing_fault ∷ no_goaway_in s (noted_of frame) ∷ [])) of_stream
-      ∙ ap (λ (n : Option Fault). first_of ((if is_idle (standing b.rows id) && true then standing_fault else None) ∷ None ∷ fault_if past (Connection flow_control_error) ∷ None ∷ unless_of_stream standing_fault
+      ∙ ap (λ (n : Option Fault). first_of ((if is_idle (standing b.drained b.rows id) && true then standing_fault else None) ∷ None ∷ fault_if past (Connection flow_control_error) ∷ None ∷ unless_of_stream standing_fault
       ∷ first_of (fault_if (is_active b.rows id && false) (Stream protocol_error) ∷ fault_if (is_active b.rows id && false) (Stream flow_control_error) ∷ []) ∷ fault_if (is_active b.rows id && past_own) (Stream flow_control_error) ∷ standing_fault ∷ n ∷ [])) (opens_no_last s frame)
-      ∙ slim (if is_idle (standing b.rows id) && true then standing_fault else None) (fault_if past (Connection flow_control_error)) (unless_of_stream standing_fault) (first_of (fault_if (is_active b.rows id && false) (Stream protocol_error) ∷ fault_if (is_active b.rows id && false) (Stream flow_control_error) ∷ [])) (fault_if (is_active b.rows id && past_own) (Stream flow_control_error)) standing_fault
-      ∙ ap (λ x. first_of ((if is_idle (standing b.rows id) && true then standing_fault else None) ∷ fault_if past (Connection flow_control_error) ∷ None ∷ unless_of_stream standing_fault
+      ∙ slim (if is_idle (standing b.drained b.rows id) && true then standing_fault else None) (fault_if past (Connection flow_control_error)) (unless_of_stream standing_fault) (first_of (fault_if (is_active b.rows id && false) (Stream protocol_error) ∷ fault_if (is_active b.rows id && false) (Stream flow_control_error) ∷ [])) (fault_if (is_active b.rows id && past_own) (Stream flow_control_error)) standing_fault
+      ∙ ap (λ x. first_of ((if is_idle (standing b.drained b.rows id) && true then standing_fault else None) ∷ fault_if past (Connection flow_control_error) ∷ None ∷ unless_of_stream standing_fault
       ∷ first_of (fault_if x (Stream protocol_error) ∷ fault_if x (Stream flow_control_error) ∷ []) ∷ fault_if (is_active b.rows id && past_own) (Stream flow_control_error) ∷ standing_fault ∷ [])) (and_right (is_active b.rows id) false refl)
     where
       slim : (i p u w d o : Option Fault) → first_of (i ∷ None ∷ p ∷ None ∷ u ∷ w ∷ d ∷ o ∷ None ∷ []) ≡ first_of (i ∷ p ∷ None ∷ u ∷ w ∷ d ∷ o ∷ [])
@@ -166,19 +166,19 @@ module _ (b : Book) (flags id : ℕ) (payload : List ℕ) (of_stream : (id == 0)
   abbrev fault_from : Bool → Bool → Option Fault → Bool → Option Fault
   fault_from idle past o past_own = or_else (first_of (rows_from idle past o past_own)) (fault_if bad_body (Stream protocol_error))
 
-  data_fault : fault_in s (coming frame) ≡ fault_from (is_idle (standing b.rows id)) past standing_fault (is_active b.rows id && past_own)
+  data_fault : fault_in s (coming frame) ≡ fault_from (is_idle (standing b.drained b.rows id)) past standing_fault (is_active b.rows id && past_own)
   data_fault = fault_later s frame sound kept.outline ∙ ap (λ (o : Option Fault). or_else o (fault_if bad_body (Stream protocol_error))) data_rows
 
   -- on an idle stream
-  pub data_idle : is_idle (standing b.rows id) ≡ true → fault_in s (coming frame) ≡ standing_fault
+  pub data_idle : is_idle (standing b.drained b.rows id) ≡ true → fault_in s (coming frame) ≡ standing_fault
   data_idle idle =
-      let f = idle_refuses b.rows id of_stream idle in
+      let f = idle_refuses b.drained b.rows id of_stream idle in
       data_fault
       ∙ ap (λ x. fault_from x past standing_fault (is_active b.rows id && past_own)) idle
       ∙ ap (λ (o : Option Fault). fault_from true past o (is_active b.rows id && past_own)) f.1
       ∙ sym f.1
 
-  module _ (known : is_idle (standing b.rows id) ≡ false) where
+  module _ (known : is_idle (standing b.drained b.rows id) ≡ false) where
     -- over the connection's window
     pub data_past : past ≡ true → fault_in s (coming frame) ≡ Some (Connection flow_control_error)
     data_past is =
@@ -197,7 +197,7 @@ module _ (b : Book) (flags id : ℕ) (payload : List ℕ) (of_stream : (id == 0)
       -- on a stream that isn't active
       pub data_inactive : is_active b.rows id ≡ false → fault_in s (coming frame) ≡ standing_fault
       data_inactive idle =
-          let h = inactive_refuses b.rows id of_stream idle in
+          let h = inactive_refuses b.drained b.rows id of_stream idle in
           within ∙ ap (λ (o : Option Fault). fault_from false false o (is_active b.rows id && past_own)) h.1 ∙ cases h.0 h.2 ∙ sym h.1
         where
           cases : (f : Fault) → is_of_stream (Some f) ≡ false → fault_from false false (Some f) (is_active b.rows id && past_own) ≡ Some f
@@ -210,7 +210,7 @@ module _ (b : Book) (flags id : ℕ) (payload : List ℕ) (of_stream : (id == 0)
       data_active active =
           within
           ∙ ap (λ x. fault_from false false standing_fault (x && past_own)) active
-          ∙ ap (λ (o : Option Fault). fault_from false false o past_own) (active_by_client b.rows id of_stream active)
+          ∙ ap (λ (o : Option Fault). fault_from false false o past_own) (active_by_client b.drained b.rows id of_stream active)
           ∙ cases past_own kept.ended_by_client (fault_if bad_body (Stream protocol_error))
         where
           cases : (x y : Bool) (o : Option Fault) → or_else (first_of (rows_from false false (fault_if y (Stream stream_closed)) x)) o ≡ first_of (fault_if x (Stream flow_control_error) ∷ fault_if y (Stream stream_closed) ∷ o ∷ [])

@@ -124,7 +124,7 @@ module _ (setup : Setup) (s : Summary) (noted : Noted) (of : IsFragment noted.fr
   pub fragment_rows : (rows : List Row) → AreKept rows → rows_after setup false s (Came noted) rows ≡ rows
   fragment_rows rows kept =
       let all : List Row = map (row_behind setup false s (Came noted)) rows in
-      ap (λ (block : Option Partial). if opens_by s.opened block noted.note then row_opened setup false s (Came noted) part.id ∷ all else all) none
+      ap (λ (block : Option Partial). if opens_by s.drained s.opened block noted.note then row_opened setup false s (Came noted) part.id ∷ all else all) none
       ∙ same_rows rows kept
 
 -- ---- the book

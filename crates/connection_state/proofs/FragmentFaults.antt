@@ -13,11 +13,11 @@ use Rattle.model.specs.Malformed.{is_malformed_content}
 use Rattle.model.specs.SettingValues.{settings_in, settings_fault, code_of_fault, initial_window_after}
 use Rattle.model.specs.Limits.{most_streams, most_resets}
 use Rattle.model.specs.Lifetimes.{opens_by}
-use Rattle.model.proofs.OwedSteps.{neither}
+use Rattle.model.proofs.OwedSteps.{neither_full}
 use Rattle.model.specs.WindowsOnTape.{has_settings, increment, is_past}
 use Rattle.model.specs.ErrorTable.{judged, is_idle, is_headers, is_undecodable, is_malformed, is_bad_block, unless_of_stream}
 use Rattle.theory_errors.specs.Summary.{Outline, carried_in, Summary}
-use Rattle.theory_errors.specs.Judging.{completed_in, frame_rows_in, rows_before_block_in, values_in, shift_in, shifts_past_in, connection_update_in, idle_in, connection_data_in, fault_on_in, fault_by_standing_in, standing_in, stream_update_in, stream_data_in, is_active_in, window_in, malformed_in, fault_for, resets_row_in, no_goaway_in, are_last, is_crowded_in}
+use Rattle.theory_errors.specs.Judging.{completed_in, frame_rows_in, rows_before_block_in, values_in, shift_in, shifts_past_in, connection_update_in, idle_in, connection_data_in, fault_on_in, fault_by_standing_in, standing_in, stream_update_in, stream_data_in, is_active_in, window_in, malformed_in, fault_for, resets_row_in, no_goaway_in, are_last, is_crowded_in, room_in}
 use Rattle.connection_state.specs.Fragments.{IsFragment}
 use Rattle.connection_state.proofs.Rows.{first_past, skip, no_fault}
 use Rattle.connection_state.proofs.Controls.{both_none}
@@ -73,7 +73,7 @@ module _ (s : Summary) (noted : Noted) (of : IsFragment noted.frame) where
       ∙ both_none (is_active_in frame.id s) (increment frame == 0) (is_past (window_in s.first_size (s.stream frame.id) +ℤ pos (increment frame))) (Stream protocol_error) (Stream flow_control_error)
 
   no_stream_data : stream_data_in s frame ≡ None
-  no_stream_data = no_fault _ _ (ap (λ b. is_active_in frame.id s && (b && int_lt (s.stream frame.id).room (pos (length frame.payload)))) of.no_data ∙ and_right (is_active_in frame.id s) false refl)
+  no_stream_data = no_fault _ _ (ap (λ b. is_active_in frame.id s && (b && int_lt (room_in s.own (s.stream frame.id)) (pos (length frame.payload)))) of.no_data ∙ and_right (is_active_in frame.id s) false refl)
 
   -- it is judged as no type where it completes no block
   as_none : judged None frame ≡ None
@@ -134,8 +134,8 @@ module _ (s : Summary) (noted : Noted) (of : IsFragment noted.frame) where
     -- It opens no stream then.
     opens_none : completed_in s.block frame ≡ None → no_goaway_in s noted ≡ None
     opens_none none =
-        ap (λ (o : Option Partial). fault_if (are_last s (if opens_by s.opened o noted.note then frame.id ∷ s.opened else s.opened) && is_crowded_in s) (Stream enhance_your_calm)) none
-        ∙ ap (λ b. fault_if (b && is_crowded_in s) (Stream enhance_your_calm)) (neither (length s.opened) most_streams)
+        ap (λ (o : Option Partial). fault_if (are_last s s.drained (if opens_by s.drained s.opened o noted.note then frame.id ∷ s.opened else s.opened) && is_crowded_in s) (Stream enhance_your_calm)) none
+        ∙ ap (λ b. fault_if (b && is_crowded_in s) (Stream enhance_your_calm)) (neither_full s.drained (length s.opened) most_streams)
 
     -- One with which the block goes on has none.
     pub fragment_fault : completed_in s.block frame ≡ None → is_undecodable noted.note ≡ false → (outline : Outline) → fault_for outline s (Came noted) ≡ None

@@ -45,7 +45,7 @@ module _ (setup : Setup) (b : Book) (frame : Frame) (fields : List Field) (of : 
   abbrev noted : Noted
   noted = record { frame = frame; note = Fields fields }
 
-  module _ (code : ℕ) (none_out : b.block_out ≡ None) (calm : is_fatal (fault_of (asked.verdict b.rows frame.id 1)) ≡ false) where
+  module _ (code : ℕ) (none_out : b.block_out ≡ None) (calm : is_fatal (fault_of (asked.verdict b.drained b.rows frame.id 1)) ≡ false) where
     -- no frame on a stream is an error of the connection with it
     calmly : (outline : Outline) → is_fatal (fault_for outline (summary_in b) (Came noted)) ≡ false
     calmly = mild setup b frame fields of sound block is_block of_stream kept calm
@@ -55,7 +55,7 @@ module _ (setup : Setup) (b : Book) (frame : Frame) (fields : List Field) (of : 
     heard_is rows rows_is = fragment_book setup b noted rows of rows_is (calmly (find b.rows frame.id).outline)
 
     -- A stream that wasn't opened by it is over by the gateway.
-    pub reset_known : may_open (summary_in b).opened frame.id ≡ false → noted_reset setup b noted code ≡ heard_with b frame (changed frame.id (Over true) b.rows)
+    pub reset_known : may_open (summary_in b).drained (summary_in b).opened frame.id ≡ false → noted_reset setup b noted code ≡ heard_with b frame (changed frame.id (Over true) b.rows)
     reset_known known =
         let all : List Row = map (row_behind setup false (summary_in b) (Came noted)) b.rows in
         let m : Book = heard_with b frame all in
@@ -64,7 +64,7 @@ module _ (setup : Setup) (b : Book) (frame : Frame) (fields : List Field) (of : 
         ∙ ap (λ (rows : List Row). heard_with b frame rows) (both_rows setup b m noted code calmly b.rows kept)
 
     -- One that was is over from the first.
-    pub reset_opened : may_open (summary_in b).opened frame.id ≡ true → noted_reset setup b noted code ≡ heard_with b frame (record { id = frame.id; slot = Over true } ∷ b.rows)
+    pub reset_opened : may_open (summary_in b).drained (summary_in b).opened frame.id ≡ true → noted_reset setup b noted code ≡ heard_with b frame (record { id = frame.id; slot = Over true } ∷ b.rows)
     reset_opened may =
         let first : Row = row_opened setup false (summary_in b) (Came noted) frame.id in
         let m : Book = heard_with b frame (first ∷ b.rows) in

@@ -43,10 +43,19 @@ use Rattle.streams.specs.Asked.{has, with_slot, changed, active_in}
 use Rattle.streams.proofs.Searches.{IsFound}
 use Rattle.streams.proofs.Changes.{slot_left, slot_given}
 use Rattle.connection_state.specs.Fragments.{IsFragment}
-use Rattle.connection_state.specs.Blocks.{opens_last, no_goaway}
 use Rattle.connection_state.proofs.Standings.{opened_standing}
 use Rattle.connection_state.proofs.FragmentFaults.{block_fault}
 use Rattle.connection_state.proofs.FragmentBooks.{rows_left}
+
+-- ---- the last stream
+
+-- a block on the stream opens the last
+abbrev pub opens_last_in : Summary → ℕ → Bool
+opens_last_in s id = are_last s s.drained (if may_open s.drained s.opened id then id ∷ s.opened else s.opened)
+
+-- its fault where the GOAWAY behind it can't go out
+abbrev pub late_fault : Summary → ℕ → Option Fault
+late_fault s id = fault_if (opens_last_in s id && is_crowded_in s) (Stream 11)
 
 -- ---- what a standing says of HEADERS
 
@@ -82,7 +91,7 @@ module _ (setup : Setup) (b : Book) (frame : Frame) (fields : List Field) (of : 
 
   -- the fault by its stream's standing
   abbrev by_standing : Option Fault
-  by_standing = fault_of (asked.verdict b.rows frame.id 1)
+  by_standing = fault_of (asked.verdict b.drained b.rows frame.id 1)
 
   -- the block is malformed behind what the stream carried
   abbrev is_bad : Outline → Bool
@@ -91,22 +100,22 @@ module _ (setup : Setup) (b : Book) (frame : Frame) (fields : List Field) (of : 
   -- ---- which streams it opens
 
   -- it opens its stream where that may be opened
-  opens_is : opens_by s.opened (completed_in s.block frame) (Fields fields) ≡ may_open s.opened frame.id
-  opens_is = ap (λ (o : Option Partial). opens_by s.opened o (Fields fields)) is_block ∙ ap (λ id. may_open s.opened id) (completed_own b.block frame block is_block)
+  opens_is : opens_by s.drained s.opened (completed_in s.block frame) (Fields fields) ≡ may_open s.drained s.opened frame.id
+  opens_is = ap (λ (o : Option Partial). opens_by s.drained s.opened o (Fields fields)) is_block ∙ ap (λ id. may_open s.drained s.opened id) (completed_own b.block frame block is_block)
 
   -- ---- its fault
 
   -- where it opens the last stream, and its GOAWAY can't go out
   abbrev late : Option Fault
-  late = no_goaway (is_crowded_in s) b.rows frame.id
+  late = late_fault s frame.id
 
   pub told_fault : (outline : Outline) → fault_for outline s (Came noted) ≡ or_else (first_of (by_standing ∷ late ∷ [])) (fault_if (is_bad outline) (Stream protocol_error))
   told_fault outline =
       block_fault s noted of sound block is_block outline
-      ∙ ap (λ x. or_else (first_of (by_standing ∷ fault_if (are_last s (if x then frame.id ∷ s.opened else s.opened) && is_crowded_in s) (Stream 11) ∷ [])) (fault_if (is_bad outline) (Stream protocol_error))) opens_is
+      ∙ ap (λ x. or_else (first_of (by_standing ∷ fault_if (are_last s s.drained (if x then frame.id ∷ s.opened else s.opened) && is_crowded_in s) (Stream 11) ∷ [])) (fault_if (is_bad outline) (Stream protocol_error))) opens_is
 
   pub mild : is_fatal by_standing ≡ false → (outline : Outline) → is_fatal (fault_for outline s (Came noted)) ≡ false
-  mild is outline = ap is_fatal (told_fault outline) ∙ cases by_standing is (opens_last b.rows frame.id && is_crowded_in s) (is_bad outline)
+  mild is outline = ap is_fatal (told_fault outline) ∙ cases by_standing is (opens_last_in s frame.id && is_crowded_in s) (is_bad outline)
     where
       cases : (o : Option Fault) → is_fatal o ≡ false → (y x : Bool) → is_fatal (or_else (first_of (o ∷ fault_if y (Stream 11) ∷ [])) (fault_if x (Stream protocol_error))) ≡ false
       cases None is true x = refl
@@ -114,21 +123,21 @@ module _ (setup : Setup) (b : Book) (frame : Frame) (fields : List Field) (of : 
       cases None is false false = refl
       cases (Some f) is y x = is
 
-  pub rows_are : (x : Bool) → may_open s.opened frame.id ≡ x → rows_after setup false s (Came noted) b.rows ≡ (if x then row_opened setup false s (Came noted) frame.id ∷ map (row_behind setup false s (Came noted)) b.rows else map (row_behind setup false s (Came noted)) b.rows)
+  pub rows_are : (x : Bool) → may_open s.drained s.opened frame.id ≡ x → rows_after setup false s (Came noted) b.rows ≡ (if x then row_opened setup false s (Came noted) frame.id ∷ map (row_behind setup false s (Came noted)) b.rows else map (row_behind setup false s (Came noted)) b.rows)
   rows_are x is = ap (λ y. if y then row_opened setup false s (Came noted) frame.id ∷ map (row_behind setup false s (Came noted)) b.rows else map (row_behind setup false s (Came noted)) b.rows) (opens_is ∙ is)
 
   -- such a stream has no row
-  pub not_there : may_open s.opened frame.id ≡ true → (row : Row) → IsFound b.rows row → row.id ≡ frame.id → ⊥
+  pub not_there : may_open s.drained s.opened frame.id ≡ true → (row : Row) → IsFound b.rows row → row.id ≡ frame.id → ⊥
   not_there may row found same =
       let there : has b.rows frame.id ≡ true = ap (has b.rows) (sym same) ∙ found.0 in
-      let none : has b.rows frame.id ≡ false = not_opened s.opened frame.id may in
+      let none : has b.rows frame.id ≡ false = not_opened s.drained s.opened frame.id may in
       let no : true ≡ false = sym there ∙ none in cc
 
   -- ---- a frame that is discarded
 
   -- It opens no stream.
-  discarded_opens_none : by_standing ≡ Some Discarded → may_open s.opened frame.id ≡ false
-  discarded_opens_none is = elim (cases_Bool (may_open s.opened frame.id)) [
+  discarded_opens_none : by_standing ≡ Some Discarded → may_open s.drained s.opened frame.id ≡ false
+  discarded_opens_none is = elim (cases_Bool (may_open s.drained s.opened frame.id)) [
     | inr none ↦ none
     | inl may ↦
         let n : ℕ = length (active_in b.rows) in
@@ -161,7 +170,7 @@ module _ (setup : Setup) (b : Book) (frame : Frame) (fields : List Field) (of : 
           let on : is_over_in (find b.rows frame.id) ≡ false = ap (λ n. is_over_in (find b.rows n)) (sym same) ∙ ap is_over_in found ∙ tidy.0 in
           let here : has b.rows frame.id ≡ true = ap (has b.rows) (sym same) ∙ there in
           let x : Kept = find b.rows frame.id in
-          absurd (never_discarded x.ended_by_client x.ended_by_gateway x.reset_by_client x.reset_by_gateway on (sym (ap (λ (st : Standing). fault_of (verdict (length (active_in b.rows)) st 1)) (opened_standing b.rows frame.id of_stream here)) ∙ is))
+          absurd (never_discarded x.ended_by_client x.ended_by_gateway x.reset_by_client x.reset_by_gateway on (sym (ap (λ (st : Standing). fault_of (verdict (length (active_in b.rows)) st 1)) (opened_standing b.drained b.rows frame.id of_stream here)) ∙ is))
 
       own : (row : Row) → IsRow row → IsFound b.rows row → row.id ≡ frame.id → row_behind setup false s (Came noted) row ≡ row
       own row is found same = by_slot row.id row.slot is.tidy found.0 found.1 same
@@ -208,14 +217,14 @@ module _ (setup : Setup) (b : Book) (frame : Frame) (fields : List Field) (of : 
           ∙ ap (λ (o : Option Partial). frame_items o noted) is_block
 
   -- The rows where it opens its stream: one more, and the others stay.
-  pub opened_rows : is_fatal by_standing ≡ false → may_open s.opened frame.id ≡ true → rows_after setup false s (Came noted) b.rows ≡ row_opened setup false s (Came noted) frame.id ∷ b.rows
+  pub opened_rows : is_fatal by_standing ≡ false → may_open s.drained s.opened frame.id ≡ true → rows_after setup false s (Came noted) b.rows ≡ row_opened setup false s (Came noted) frame.id ∷ b.rows
   opened_rows calm may =
       rows_are true may
       ∙ ap (λ (rs : List Row). row_opened setup false s (Came noted) frame.id ∷ rs)
       (rows_left setup b noted (mild calm) (λ (row : Row). row) kept (λ row is found same. absurd (not_there may row found same)) (λ row apart. refl) ∙ map-id b.rows)
 
   -- Where it opens none, the row of its stream alone changes.
-  pub known_rows : is_fatal by_standing ≡ false → may_open s.opened frame.id ≡ false → rows_after setup false s (Came noted) b.rows ≡ changed frame.id (slot_of (kept_behind setup false s (Came noted) frame.id (find b.rows frame.id))) b.rows
+  pub known_rows : is_fatal by_standing ≡ false → may_open s.drained s.opened frame.id ≡ false → rows_after setup false s (Came noted) b.rows ≡ changed frame.id (slot_of (kept_behind setup false s (Came noted) frame.id (find b.rows frame.id))) b.rows
   known_rows calm known =
       rows_are false known
       ∙ rows_left setup b noted (mild calm) (with_slot frame.id (slot_of (kept_behind setup false s (Came noted) frame.id (find b.rows frame.id)))) kept own (λ row apart. slot_left frame.id _ row apart)

@@ -19,9 +19,12 @@ use Rattle.theory_errors.specs.Book.{Book}
 use Rattle.theory_errors.specs.Tidy.{AreKept}
 use Rattle.theory_header_tables.specs.Rule.{IsNoted}
 use Rattle.theory_header_tables.specs.Verdicts.{verdict_in}
+use Rattle.model.specs.StreamStates.Standing.{Beyond}
+use Rattle.streams.specs.Asked.{standing}
 use Rattle.connection_state.specs.Inbound.{Inbound, Outside, book_of, told_of}
 use Rattle.connection_state.specs.Judgement.{behind}
 use Rattle.connection_state.specs.Blocks.{SettlesBy, fault_with}
+use Rattle.connection_state.specs.Draining.{AreAsEver}
 use Rattle.connection_state.specs.Fragments.{IsTableLeft, IsNotedJudged, IsFragmentJudged, Completes, IsUndecodable}
 use Rattle.connection_state.specs.declared.answers.FrameError.TheVariants as told
 use Rattle.connection_state.specs.declared.answers.BlockJudged.{BlockJudged}
@@ -30,7 +33,7 @@ use Rattle.connection_state.proofs.Rows.{first_within}
 use Rattle.connection_state.proofs.Gathering.{no_error_before}
 use Rattle.connection_state.proofs.FragmentFaults.{block_fault}
 use Rattle.connection_state.proofs.FragmentBooks.{heard_with}
-use Rattle.connection_state.proofs.BlockBooks.{judged_by}
+use Rattle.connection_state.proofs.BlockBooks.{beyond_judged, judged_by}
 
 -- the table that the decoder leaves is kept
 table_left : (next : Table) (a : BlockJudged) → IsTableLeft next a next
@@ -64,16 +67,29 @@ module _ (setup : Setup) (outside : Outside) (before old : Inbound) (frame : Fra
       (subst (λ e. IsNoted (Some block) e before.table note next) (sym (no_error_before before frame by.of by.sound outside)) is)
 
   -- What comes of a block that was read.
-  pub block_judged : (frame.id == 0) ≡ false → AreKept before.rows → (fields : List Field) (next : Table) (rows : List Row) (a : BlockJudged) → IsNoted (Some block) false before.table (Fields fields) next → SettlesBy (fault_with (is_crowded_in (told_of outside before)) before.rows frame.id fields block.ends) setup before.rows frame.id fields block.ends rows a
+  pub block_judged : (frame.id == 0) ≡ false → AreKept before.rows → AreAsEver before.drained before.rows frame.id → (fields : List Field) (next : Table) (rows : List Row) (a : BlockJudged) → IsNoted (Some block) false before.table (Fields fields) next → SettlesBy (fault_with (is_crowded_in (told_of outside before)) before.rows frame.id fields block.ends) setup before.rows frame.id fields block.ends rows a
       → IsFragmentJudged setup outside before frame (record old { has_come = true; last = frame.id; rows = rows; table = next }) a
-  block_judged of_stream kept fields next rows a noted settles = record {
+  block_judged of_stream kept ever fields next rows a noted settles = record {
     note = Fields fields;
     next = next;
     is_noted = noted_so (Fields fields) next noted;
     stays = λ none. absurd (let no : None ≡ Some block = sym none ∙ by.is_block in cc);
     read = λ unread. absurd (cc);
     table = table_left next a;
-    judged = subst (λ (x : Book). IsNotedJudged setup (book_of outside before) (record { frame = frame; note = Fields fields }) x a) (heard_is rows next) (judged_by setup (book_of outside before) frame fields by.of (by.sound outside) block by.is_block of_stream kept refl rows a settles);
+    judged = subst (λ (x : Book). IsNotedJudged setup (book_of outside before) (record { frame = frame; note = Fields fields }) x a) (heard_is rows next) (judged_by setup (book_of outside before) frame fields by.of (by.sound outside) block by.is_block of_stream kept ever refl rows a settles);
+  }
+
+  -- One on an id that is beyond the last is discarded, though it was read.
+  pub block_beyond : (frame.id == 0) ≡ false → AreKept before.rows → standing before.drained before.rows frame.id ≡ Beyond → (fields : List Field) (next : Table) → IsNoted (Some block) false before.table (Fields fields) next
+      → IsFragmentJudged setup outside before frame (record old { has_come = true; last = frame.id; rows = before.rows; table = next }) (judged.Failed told.Discarded)
+  block_beyond of_stream kept beyond fields next noted = record {
+    note = Fields fields;
+    next = next;
+    is_noted = noted_so (Fields fields) next noted;
+    stays = λ none. absurd (let no : None ≡ Some block = sym none ∙ by.is_block in cc);
+    read = λ unread. absurd (cc);
+    table = refl;
+    judged = subst (λ (x : Book). IsNotedJudged setup (book_of outside before) (record { frame = frame; note = Fields fields }) x (judged.Failed told.Discarded)) (heard_is before.rows next) (beyond_judged setup (book_of outside before) frame fields by.of (by.sound outside) block by.is_block of_stream kept beyond);
   }
 
   -- One that can't be read is an error of the connection.

@@ -11,6 +11,7 @@ pub mod FragmentStreams
 pub mod FragmentResets
 pub mod BlockRows
 pub mod Kept
+pub mod Beyond
 pub mod BlockBooks
 pub mod Settling
 pub mod Gathering

@@ -45,14 +45,14 @@ module _ (setup : Setup) (b : Book) (flags id : ℕ) (payload : List ℕ) (of_st
 
   -- what comes of it by its stream's standing
   abbrev pub standing_fault : Option Fault
-  standing_fault = fault_of (asked.verdict b.rows id 3)
+  standing_fault = fault_of (asked.verdict b.drained b.rows id 3)
 
   -- where its stream isn't active, it isn't one
   not_too_many : is_active b.rows id ≡ false → too_many ≡ None
   not_too_many idle = ap (λ x. fault_if (x && nat_le most_resets b.resets) (Connection 11)) idle
 
   none_where_wrong : (f : Fault) → standing_fault ≡ Some f → too_many ≡ None
-  none_where_wrong f is = not_too_many (reset_inactive b.rows id of_stream f is)
+  none_where_wrong f is = not_too_many (reset_inactive b.drained b.rows id of_stream f is)
 
   abbrev last_rows : List (Option Fault)
   last_rows = stream_update_in s frame ∷ stream_data_in s frame ∷ fault_by_standing_in s frame ∷ no_goaway_in s (noted_of frame) ∷ []
@@ -73,7 +73,7 @@ module _ (setup : Setup) (b : Book) (flags id : ℕ) (payload : List ℕ) (of_st
   reset_rows : first_of (later_rows s frame) ≡ or_else standing_fault (or_else too_many (first_of last_rows))
   reset_rows =
       ap (λ x. first_of (first_of (fault_if (x && (false && increment frame == 0)) (Connection protocol_error) ∷ fault_if (x && (false && is_past (b.window +ℤ pos (increment frame)))) (Connection flow_control_error) ∷ []) ∷ (if is_idle (standing_in s id) && true then standing_fault else None) ∷ too_many ∷ None ∷ None ∷ unless_of_stream standing_fault ∷ last_rows)) of_stream
-      ∙ decides (is_idle (standing_in s id) && true) standing_fault too_many last_rows (reset_mild (length (active_in b.rows)) (standing b.rows id)) none_where_wrong
+      ∙ decides (is_idle (standing_in s id) && true) standing_fault too_many last_rows (reset_mild (length (active_in b.rows)) (standing b.drained b.rows id)) none_where_wrong
 
   pub reset_fault : (outline : Outline) → fault_for outline s (coming frame) ≡ or_else standing_fault too_many
   reset_fault outline =
@@ -95,7 +95,7 @@ module _ (setup : Setup) (b : Book) (flags id : ℕ) (payload : List ℕ) (of_st
   -- An active stream is over behind it, unless it is one too many.
   pub reset_behind_active : is_active b.rows id ≡ true → nat_le most_resets b.resets ≡ false → behind setup b frame ≡ record (heard b frame) { rows = changed id (Over false) b.rows; resets = suc b.resets }
   reset_behind_active active few =
-      let passes : standing_fault ≡ None = (active_passes b.rows id of_stream active).0 in
+      let passes : standing_fault ≡ None = (active_passes b.drained b.rows id of_stream active).0 in
       let none : or_else standing_fault too_many ≡ None =
       ap (λ (o : Option Fault). or_else o too_many) passes ∙ ap (λ x. fault_if (is_active b.rows id && x) (Connection 11)) few ∙ ap (λ x. fault_if x (Connection 11)) (and_right (is_active b.rows id) false refl) in
       let parts = and_parts (asked.has b.rows id) (not (is_over_in (find b.rows id))) active in

@@ -20,7 +20,7 @@ use Rattle.model.specs.ErrorTable.{is_undecodable, is_malformed, unless_of_strea
 use Rattle.model.specs.WindowsOnTape.{has_settings, is_any}
 use Rattle.model.specs.Lifetimes.{opens_by}
 use Rattle.model.specs.Limits.{most_streams}
-use Rattle.model.proofs.OwedSteps.{neither}
+use Rattle.model.proofs.OwedSteps.{neither_full}
 use Rattle.model.specs.ErrorClause.{is_fatal}
 use Rattle.theory_errors.specs.Summary.{Outline, carried_in, Summary}
 use Rattle.theory_errors.specs.Judging.{completed_in, between_in, long_block_in, misplaced_in, payload_in, frame_rows_in, values_in, shift_in, connection_update_in, idle_in, connection_data_in, fault_by_standing_in, stream_update_in, stream_data_in, malformed_in, fault_for, resets_row_in, no_goaway_in, are_last, is_crowded_in}
@@ -89,10 +89,10 @@ later_rows s frame =
 -- the last of them never applies: a frame without a header block opens no stream
 pub opens_no_last : (s : Summary) (frame : Frame) → no_goaway_in s (noted_of frame) ≡ None
 opens_no_last s frame =
-    ap (λ b. fault_if (are_last s (if b then frame.id ∷ s.opened else s.opened) && is_crowded_in s) (Stream 11)) (none (completed_in s.block frame))
-    ∙ ap (λ b. fault_if (b && is_crowded_in s) (Stream 11)) (neither (length s.opened) most_streams)
+    ap (λ b. fault_if (are_last s s.drained (if b then frame.id ∷ s.opened else s.opened) && is_crowded_in s) (Stream 11)) (none (completed_in s.block frame))
+    ∙ ap (λ b. fault_if (b && is_crowded_in s) (Stream 11)) (neither_full s.drained (length s.opened) most_streams)
   where
-    none : (block : Option Partial) → opens_by s.opened block NoBlock ≡ false
+    none : (block : Option Partial) → opens_by s.drained s.opened block NoBlock ≡ false
     none None = refl
     none (Some block) = refl
 
@@ -184,7 +184,7 @@ pub rows_behind : (setup : Setup) (b : Book) (frame : Frame) (f : Row → Row) �
 rows_behind setup b frame f kept plain begun mild own others =
     let s : Summary = summary_in b in
     let all : List Row = map (row_behind setup false s (coming frame)) b.rows in
-    ap (λ (block : Option Partial). if opens_by s.opened block NoBlock then row_opened setup false s (coming frame) frame.id ∷ all else all) (completes_none s.block frame plain.no_headers plain.no_continuation)
+    ap (λ (block : Option Partial). if opens_by s.drained s.opened block NoBlock then row_opened setup false s (coming frame) frame.id ∷ all else all) (completes_none s.block frame plain.no_headers plain.no_continuation)
     ∙ each b.rows kept (recursion_from_All (IsFound b.rows) b.rows (all_found b.rows kept))
   where
     one : (row : Row) → IsRow row → IsFound b.rows row → row_behind setup false (summary_in b) (coming frame) row ≡ f row

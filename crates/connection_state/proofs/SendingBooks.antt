@@ -18,7 +18,7 @@ use Rattle.model.specs.Lifetimes.{ends_by}
 use Rattle.model.specs.WindowsOnTape.{increment, data_length, is_any}
 use Rattle.model.specs.Courses.{is_final}
 use Rattle.model.specs.ErrorClause.{rst_stream}
-use Rattle.model.proofs.OwedSteps.{neither, no_reset_for}
+use Rattle.model.proofs.OwedSteps.{neither_full, no_reset_for}
 use Rattle.theory_errors.specs.Summary.{Stream as Kept, Summary}
 use Rattle.theory_errors.specs.Judging.{completed_in}
 use Rattle.theory_errors.specs.Owing.{highest_in, next_outline, resets_in, reset_behind_in, owes_in}
@@ -52,7 +52,7 @@ sent_book setup b noted block_out window room rows block_is window_is room_is ro
 sent_owes : (setup : Setup) (b : Book) (noted : Noted) (ends : Bool) → ends_by (completed_in b.block_out noted.frame) noted.frame ≡ ends → owes_in setup false (summary_in b) (Sent noted) ≡ early_reset b noted.frame.id ends
 sent_owes setup b noted ends ended =
     let s : Summary = summary_in b in
-    ap (λ x. (if x then goaway (highest_in s.opened) no_error ∷ [] else []) ++ (resets_in setup false s (Sent noted) ++ reset_behind_in s (Sent noted))) (neither (length s.opened) most_streams)
+    ap (λ x. (if x then goaway (highest_in s.opened) no_error ∷ [] else []) ++ (resets_in setup false s (Sent noted) ++ reset_behind_in s (Sent noted))) (neither_full s.drained (length s.opened) most_streams)
     ∙ ap (λ (fs : List Frame). fs ++ reset_behind_in s (Sent noted)) none_reset
     ∙ ap (λ x. if x && not (s.stream noted.frame.id).ended_by_client then rst_stream noted.frame.id no_error ∷ [] else []) ended
   where

@@ -1,5 +1,5 @@
 -- What comes of a whole header block on its stream, by what the program did.
-use Rattle.std.proofs.Common.{◌≡◌, ℕ, suc, ◌≤◌, nat_lt, ◌==◌, Bool, true, false, not, ◌&&◌, ◌||◌, if◌then◌else◌, List, [], ◌∷◌, length, Option, Some, None, refl, sym, ◌∙◌, ap, subst, arith}
+use Rattle.std.proofs.Common.{◌≡◌, ℕ, suc, ◌≤◌, nat_lt, ◌==◌, Bool, true, false, not, ◌&&◌, ◌||◌, if◌then◌else◌, List, [], ◌∷◌, length, Option, Some, None, refl, sym, ◌∙◌, ap, arith}
 use Rattle.std.proofs.lemmas.Bool.{or_right, and_right}
 use Rattle.std.proofs.lemmas.List.{length-map}
 use Rattle.std.proofs.Math.Bool.{or-false}
@@ -38,14 +38,14 @@ use Rattle.connection_state.specs.declared.answers.BlockJudged.{BlockJudged}
 -- ---- faults
 
 -- by the state of the stream
-pub refused_by : (rows : List Row) (id : ℕ) (fields : List Field) (ends : Bool) (f : Fault) → fault_of (verdict rows id 1) ≡ Some f → fault_on rows id fields ends ≡ Some f
+pub refused_by : (rows : List Row) (id : ℕ) (fields : List Field) (ends : Bool) (f : Fault) → fault_of (verdict false rows id 1) ≡ Some f → fault_on rows id fields ends ≡ Some f
 refused_by rows id fields ends f is = ap (λ (o : Option Fault). or_else o (fault_if (is_malformed_behind (find rows id).outline fields ends) (Stream protocol_error))) is
 
 -- by the block itself
-pub fault_by_block : (rows : List Row) (id : ℕ) (fields : List Field) (ends : Bool) → fault_of (verdict rows id 1) ≡ None → fault_on rows id fields ends ≡ fault_if (is_malformed_behind (find rows id).outline fields ends) (Stream protocol_error)
+pub fault_by_block : (rows : List Row) (id : ℕ) (fields : List Field) (ends : Bool) → fault_of (verdict false rows id 1) ≡ None → fault_on rows id fields ends ≡ fault_if (is_malformed_behind (find rows id).outline fields ends) (Stream protocol_error)
 fault_by_block rows id fields ends is = ap (λ (o : Option Fault). or_else o (fault_if (is_malformed_behind (find rows id).outline fields ends) (Stream protocol_error))) is
 
-pub malformed_by : (rows : List Row) (id : ℕ) (fields : List Field) (ends : Bool) (outline : Outline) (b : Bool) → fault_of (verdict rows id 1) ≡ None → outline ≡ (find rows id).outline → is_malformed_behind outline fields ends ≡ b → fault_on rows id fields ends ≡ fault_if b (Stream protocol_error)
+pub malformed_by : (rows : List Row) (id : ℕ) (fields : List Field) (ends : Bool) (outline : Outline) (b : Bool) → fault_of (verdict false rows id 1) ≡ None → outline ≡ (find rows id).outline → is_malformed_behind outline fields ends ≡ b → fault_on rows id fields ends ≡ fault_if b (Stream protocol_error)
 malformed_by rows id fields ends outline b passes same is =
     fault_by_block rows id fields ends passes ∙ ap (λ (x : Outline). fault_if (is_malformed_behind x fields ends) (Stream protocol_error)) (sym same) ∙ ap (λ x. fault_if x (Stream protocol_error)) is
 
@@ -135,17 +135,17 @@ none_joins (Some cause) is = refl
 -- where it isn't opened, or the state of the stream is against it, nothing else is a fault
 pub not_last : (rows : List Row) (id : ℕ) (fields : List Field) (ends : Bool) → opens_last rows id ≡ false → fault_with true rows id fields ends ≡ fault_on rows id fields ends
 not_last rows id fields ends is =
-    ap (λ x. or_else (fault_of (verdict rows id 1)) (or_else (fault_if (x && true) (Stream 11)) (fault_if (is_malformed_behind (find rows id).outline fields ends) (Stream protocol_error)))) is
+    ap (λ x. or_else (fault_of (verdict false rows id 1)) (or_else (fault_if (x && true) (Stream 11)) (fault_if (is_malformed_behind (find rows id).outline fields ends) (Stream protocol_error)))) is
 
-pub refused_alike : (rows : List Row) (id : ℕ) (fields : List Field) (ends : Bool) → is_some (fault_of (verdict rows id 1)) ≡ true → fault_with true rows id fields ends ≡ fault_on rows id fields ends
-refused_alike rows id fields ends is = cases (fault_of (verdict rows id 1)) is (no_goaway true rows id) (fault_if (is_malformed_behind (find rows id).outline fields ends) (Stream protocol_error))
+pub refused_alike : (rows : List Row) (id : ℕ) (fields : List Field) (ends : Bool) → is_some (fault_of (verdict false rows id 1)) ≡ true → fault_with true rows id fields ends ≡ fault_on rows id fields ends
+refused_alike rows id fields ends is = cases (fault_of (verdict false rows id 1)) is (no_goaway true rows id) (fault_if (is_malformed_behind (find rows id).outline fields ends) (Stream protocol_error))
   where
     cases : (o : Option Fault) → is_some o ≡ true → (n later : Option Fault) → or_else o (or_else n later) ≡ or_else o later
     cases (Some f) is n later = refl
     cases None is n later = absurd (let no : false ≡ true = is in cc)
 
 -- where it is, that is its fault
-pub last_fault : (rows : List Row) (id : ℕ) (fields : List Field) (ends : Bool) → fault_of (verdict rows id 1) ≡ None → opens_last rows id ≡ true → fault_with true rows id fields ends ≡ Some (Stream 11)
+pub last_fault : (rows : List Row) (id : ℕ) (fields : List Field) (ends : Bool) → fault_of (verdict false rows id 1) ≡ None → opens_last rows id ≡ true → fault_with true rows id fields ends ≡ Some (Stream 11)
 last_fault rows id fields ends passes is =
     ap (λ (o : Option Fault). or_else o (or_else (no_goaway true rows id) (fault_if (is_malformed_behind (find rows id).outline fields ends) (Stream protocol_error)))) passes
     ∙ ap (λ x. or_else (fault_if (x && true) (Stream 11)) (fault_if (is_malformed_behind (find rows id).outline fields ends) (Stream protocol_error))) is
@@ -153,10 +153,10 @@ last_fault rows id fields ends passes is =
 -- where the connection isn't crowded, the GOAWAY goes out
 pub not_crowded : (rows : List Row) (id : ℕ) (fields : List Field) (ends : Bool) → fault_with false rows id fields ends ≡ fault_on rows id fields ends
 not_crowded rows id fields ends =
-    ap (λ x. or_else (fault_of (verdict rows id 1)) (or_else (fault_if x (Stream 11)) (fault_if (is_malformed_behind (find rows id).outline fields ends) (Stream protocol_error)))) (and_right (opens_last rows id) false refl)
+    ap (λ x. or_else (fault_of (verdict false rows id 1)) (or_else (fault_if x (Stream 11)) (fault_if (is_malformed_behind (find rows id).outline fields ends) (Stream protocol_error)))) (and_right (opens_last rows id) false refl)
 
 -- which one is the last, by how many were opened
-pub last_is : (rows : List Row) (id n : ℕ) (may : Bool) → n ≡ length rows → may_open (ids_of rows) id ≡ may → opens_last rows id ≡ (nat_lt n most_streams && (if may then suc n else n) == most_streams)
+pub last_is : (rows : List Row) (id n : ℕ) (may : Bool) → n ≡ length rows → may_open false (ids_of rows) id ≡ may → opens_last rows id ≡ (nat_lt n most_streams && (if may then suc n else n) == most_streams)
 last_is rows id n may count is =
     let same : length (ids_of rows) ≡ n = length-map rows (λ (row : Row). row.id) ∙ sym count in
     ap (λ x. nat_lt (length (ids_of rows)) most_streams && length (if x then id ∷ ids_of rows else ids_of rows) == most_streams) is

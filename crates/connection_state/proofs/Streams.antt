@@ -183,7 +183,7 @@ module _ (setup : Setup) (b : Book) (frame : Frame) (code : ℕ) (plain : IsPlai
       let rst : Frame = rst_stream frame.id code in
       let all : List Row = map (row_behind setup false (summary_in b) (coming frame)) b.rows in
       let none_opened : rows_after setup false (summary_in b) (coming frame) b.rows ≡ all =
-      ap (λ (block : Option Partial). if opens_by (summary_in b).opened block NoBlock then row_opened setup false (summary_in b) (coming frame) frame.id ∷ all else all) (completes_none b.block frame plain.no_headers plain.no_continuation) in
+      ap (λ (block : Option Partial). if opens_by (summary_in b).drained (summary_in b).opened block NoBlock then row_opened setup false (summary_in b) (coming frame) frame.id ∷ all else all) (completes_none b.block frame plain.no_headers plain.no_continuation) in
       let m : Book = record (heard b frame) { room = room; rows = all; resets = resets_after (summary_in b) (coming frame) } in
       let came : behind setup b frame ≡ m = stream_behind setup b frame plain of_stream sound kept room all none room_is none_opened (mild (find b.rows frame.id).outline) in
       ap (λ (x : Book). record (book_after setup false x (sending rst)) { untaken = b.untaken }) came

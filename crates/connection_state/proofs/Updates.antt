@@ -55,20 +55,20 @@ module _ (setup : Setup) (b : Book) (flags id : ℕ) (payload : List ℕ) (of_st
       )
 
   -- its fault is that by its stream's standing, else by these
-  update_rows : first_of (later_rows s frame) ≡ or_else (fault_of (asked.verdict b.rows id 8)) (first_of (window_rows (is_active b.rows id) ∷ stream_data_in s frame ∷ fault_by_standing_in s frame ∷ no_goaway_in s (noted_of frame) ∷ []))
+  update_rows : first_of (later_rows s frame) ≡ or_else (fault_of (asked.verdict b.drained b.rows id 8)) (first_of (window_rows (is_active b.rows id) ∷ stream_data_in s frame ∷ fault_by_standing_in s frame ∷ no_goaway_in s (noted_of frame) ∷ []))
   update_rows =
-      ap (λ x. first_of (first_of (fault_if (x && count == 0) (Connection protocol_error) ∷ fault_if (x && is_past (b.window +ℤ pos count)) (Connection flow_control_error) ∷ []) ∷ (if is_idle (standing_in s id) && true then fault_of (asked.verdict b.rows id 8) else None) ∷ None ∷ None ∷ None ∷ unless_of_stream (fault_of (asked.verdict b.rows id 8)) ∷ stream_update_in s frame ∷ stream_data_in s frame ∷ fault_by_standing_in s frame ∷ no_goaway_in s (noted_of frame) ∷ [])) of_stream
-      ∙ standing_rows (is_idle (standing_in s id) && true) (fault_of (asked.verdict b.rows id 8)) (stream_update_in s frame ∷ stream_data_in s frame ∷ fault_by_standing_in s frame ∷ no_goaway_in s (noted_of frame) ∷ []) (update_mild (length (active_in b.rows)) (standing b.rows id))
+      ap (λ x. first_of (first_of (fault_if (x && count == 0) (Connection protocol_error) ∷ fault_if (x && is_past (b.window +ℤ pos count)) (Connection flow_control_error) ∷ []) ∷ (if is_idle (standing_in s id) && true then fault_of (asked.verdict b.drained b.rows id 8) else None) ∷ None ∷ None ∷ None ∷ unless_of_stream (fault_of (asked.verdict b.drained b.rows id 8)) ∷ stream_update_in s frame ∷ stream_data_in s frame ∷ fault_by_standing_in s frame ∷ no_goaway_in s (noted_of frame) ∷ [])) of_stream
+      ∙ standing_rows (is_idle (standing_in s id) && true) (fault_of (asked.verdict b.drained b.rows id 8)) (stream_update_in s frame ∷ stream_data_in s frame ∷ fault_by_standing_in s frame ∷ no_goaway_in s (noted_of frame) ∷ []) (update_mild (length (active_in b.rows)) (standing b.drained b.rows id))
 
-  all_rows : (outline : Outline) → fault_for outline s (coming frame) ≡ or_else (fault_of (asked.verdict b.rows id 8)) (first_of (window_rows (is_active b.rows id) ∷ None ∷ fault_of (asked.verdict b.rows id 8) ∷ []))
+  all_rows : (outline : Outline) → fault_for outline s (coming frame) ≡ or_else (fault_of (asked.verdict b.drained b.rows id 8)) (first_of (window_rows (is_active b.rows id) ∷ None ∷ fault_of (asked.verdict b.drained b.rows id 8) ∷ []))
   all_rows outline =
       fault_later s frame sound outline
       ∙ ap (λ (o : Option Fault). or_else o (malformed_in outline s (coming frame))) update_rows
-      ∙ ap (λ x. or_else (or_else (fault_of (asked.verdict b.rows id 8)) (first_of (window_rows (is_active b.rows id) ∷ stream_data_in s frame ∷ fault_by_standing_in s frame ∷ no_goaway_in s (noted_of frame) ∷ []))) (fault_if x (Stream protocol_error))) (and_right (not (is_some outline.cause)) false refl)
-      ∙ ap (λ x. or_else (or_else (fault_of (asked.verdict b.rows id 8)) (first_of (window_rows (is_active b.rows id) ∷ fault_if x (Stream flow_control_error) ∷ fault_by_standing_in s frame ∷ no_goaway_in s (noted_of frame) ∷ []))) None) (and_right (is_active_in id s) false refl)
-      ∙ ap (λ (n : Option Fault). or_else (or_else (fault_of (asked.verdict b.rows id 8)) (first_of (window_rows (is_active b.rows id) ∷ None ∷ fault_by_standing_in s frame ∷ n ∷ []))) None) (opens_no_last s frame)
-      ∙ ap (λ (o : Option Fault). or_else (or_else (fault_of (asked.verdict b.rows id 8)) o) None) (last_left (window_rows (is_active b.rows id)) (fault_of (asked.verdict b.rows id 8)))
-      ∙ itself (or_else (fault_of (asked.verdict b.rows id 8)) (first_of (window_rows (is_active b.rows id) ∷ None ∷ fault_of (asked.verdict b.rows id 8) ∷ [])))
+      ∙ ap (λ x. or_else (or_else (fault_of (asked.verdict b.drained b.rows id 8)) (first_of (window_rows (is_active b.rows id) ∷ stream_data_in s frame ∷ fault_by_standing_in s frame ∷ no_goaway_in s (noted_of frame) ∷ []))) (fault_if x (Stream protocol_error))) (and_right (not (is_some outline.cause)) false refl)
+      ∙ ap (λ x. or_else (or_else (fault_of (asked.verdict b.drained b.rows id 8)) (first_of (window_rows (is_active b.rows id) ∷ fault_if x (Stream flow_control_error) ∷ fault_by_standing_in s frame ∷ no_goaway_in s (noted_of frame) ∷ []))) None) (and_right (is_active_in id s) false refl)
+      ∙ ap (λ (n : Option Fault). or_else (or_else (fault_of (asked.verdict b.drained b.rows id 8)) (first_of (window_rows (is_active b.rows id) ∷ None ∷ fault_by_standing_in s frame ∷ n ∷ []))) None) (opens_no_last s frame)
+      ∙ ap (λ (o : Option Fault). or_else (or_else (fault_of (asked.verdict b.drained b.rows id 8)) o) None) (last_left (window_rows (is_active b.rows id)) (fault_of (asked.verdict b.drained b.rows id 8)))
+      ∙ itself (or_else (fault_of (asked.verdict b.drained b.rows id 8)) (first_of (window_rows (is_active b.rows id) ∷ None ∷ fault_of (asked.verdict b.drained b.rows id 8) ∷ [])))
     where
       last_left : (w o : Option Fault) → first_of (w ∷ None ∷ o ∷ None ∷ []) ≡ first_of (w ∷ None ∷ o ∷ [])
       last_left None None = refl
@@ -80,10 +80,10 @@ module _ (setup : Setup) (b : Book) (flags id : ℕ) (payload : List ℕ) (of_st
       itself (Some f) = refl
 
   -- on a stream that isn't active
-  pub update_idle : (f : Fault) → fault_of (asked.verdict b.rows id 8) ≡ Some f → (outline : Outline) → fault_for outline s (coming frame) ≡ Some f
+  pub update_idle : (f : Fault) → fault_of (asked.verdict b.drained b.rows id 8) ≡ Some f → (outline : Outline) → fault_for outline s (coming frame) ≡ Some f
   update_idle f is outline = all_rows outline ∙ ap (λ (o : Option Fault). or_else o (first_of (window_rows (is_active b.rows id) ∷ None ∷ o ∷ []))) is
 
-  pub update_behind_none : is_active b.rows id ≡ false → (f : Fault) → fault_of (asked.verdict b.rows id 8) ≡ Some f → is_fatal (Some f) ≡ false → behind setup b frame ≡ heard b frame
+  pub update_behind_none : is_active b.rows id ≡ false → (f : Fault) → fault_of (asked.verdict b.drained b.rows id 8) ≡ Some f → is_fatal (Some f) ≡ false → behind setup b frame ≡ heard b frame
   update_behind_none idle f is mild =
       stream_behind setup b frame plain of_stream sound kept b.room b.rows refl
       (none_less b.room 0 refl)
@@ -95,7 +95,7 @@ module _ (setup : Setup) (b : Book) (flags id : ℕ) (payload : List ℕ) (of_st
     pub by_window : (outline : Outline) → fault_for outline s (coming frame) ≡ first_of (fault_if (count == 0) (Stream protocol_error) ∷ fault_if (is_past (window_in b.first_size (find b.rows id) +ℤ pos count)) (Stream flow_control_error) ∷ [])
     by_window outline =
         all_rows outline
-        ∙ ap (λ (o : Option Fault). or_else o (first_of (window_rows (is_active b.rows id) ∷ None ∷ o ∷ []))) (active_passes b.rows id of_stream active).1
+        ∙ ap (λ (o : Option Fault). or_else o (first_of (window_rows (is_active b.rows id) ∷ None ∷ o ∷ []))) (active_passes b.drained b.rows id of_stream active).1
         ∙ ap (λ x. first_of (window_rows x ∷ None ∷ None ∷ [])) active
         ∙ itself (first_of (fault_if (count == 0) (Stream protocol_error) ∷ fault_if (is_past (window_in b.first_size (find b.rows id) +ℤ pos count)) (Stream flow_control_error) ∷ []))
       where

@@ -31,7 +31,7 @@ use Rattle.connection_state.specs.declared.answers.BlockJudged.TheVariants as ju
 
 -- the rows where a stream has this slot: its row is changed if it has one, and else stands in front
 abbrev pub placed : List Row → ℕ → Slot → List Row
-placed rows id slot = if may_open (ids_of rows) id then record { id = id; slot = slot } ∷ rows else changed id slot rows
+placed rows id slot = if may_open false (ids_of rows) id then record { id = id; slot = slot } ∷ rows else changed id slot rows
 
 -- what is kept of a stream behind a block without a fault
 abbrev pub kept_with : Setup → Kept → List Field → Bool → Kept
@@ -49,11 +49,11 @@ is_malformed_behind outline fields ends = not (is_some outline.cause) && is_bad_
 -- its fault: by the state of its stream, or by itself
 abbrev pub fault_on : List Row → ℕ → List Field → Bool → Option errors.Fault
 fault_on rows id fields ends =
-    or_else (fault_of (verdict rows id headers_kind)) (fault_if (is_malformed_behind (find rows id).outline fields ends) (errors.Fault.Stream protocol_error))
+    or_else (fault_of (verdict false rows id headers_kind)) (fault_if (is_malformed_behind (find rows id).outline fields ends) (errors.Fault.Stream protocol_error))
 
 -- the streams that were opened, with one where it may be opened
 abbrev pub ids_with : List Row → ℕ → List ℕ
-ids_with rows id = if may_open (ids_of rows) id then id ∷ ids_of rows else ids_of rows
+ids_with rows id = if may_open false (ids_of rows) id then id ∷ ids_of rows else ids_of rows
 
 -- a block on the stream opens the last that a connection may have
 abbrev pub opens_last : List Row → ℕ → Bool
@@ -66,7 +66,7 @@ no_goaway crowded rows id = fault_if (opens_last rows id && crowded) (errors.Fau
 -- its fault where too many octets are untaken or aren't
 abbrev pub fault_with : Bool → List Row → ℕ → List Field → Bool → Option errors.Fault
 fault_with crowded rows id fields ends =
-    or_else (fault_of (verdict rows id headers_kind)) (or_else (no_goaway crowded rows id)
+    or_else (fault_of (verdict false rows id headers_kind)) (or_else (no_goaway crowded rows id)
     (fault_if (is_malformed_behind (find rows id).outline fields ends) (errors.Fault.Stream protocol_error)))
 
 -- The rows that a block with this fault leaves: behind an error of its stream that is reset.
@@ -106,7 +106,7 @@ SettlesBy fault setup old id fields ends new answer = (fault ≡ None) × IsSett
 
 -- The stream is active, or the client may open it.
 abbrev pub IsOpenOrIdle : List Row → ℕ → Type 0
-IsOpenOrIdle rows id = (is_active rows id ≡ true) ⊎ (may_open (ids_of rows) id ≡ true)
+IsOpenOrIdle rows id = (is_active rows id ≡ true) ⊎ (may_open false (ids_of rows) id ≡ true)
 
 -- what is kept of a stream, with this course, and which its client ends with it or doesn't
 abbrev pub kept_so : Kept → Outline → Bool → Kept

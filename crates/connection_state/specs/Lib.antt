@@ -8,5 +8,6 @@ pub mod Judgement
 pub mod Blocks
 pub mod Fragments
 pub mod Admission
+pub mod Draining
 pub mod Sending
 pub mod AnyFrame

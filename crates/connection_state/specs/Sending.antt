@@ -1,6 +1,7 @@
 -- What entries of the gateway's own lead to: the book behind each, and what it calls for.
-use Rattle.std.specs.Prelude.{◌≡◌, ℕ, Bool, true, false, not, ◌&&◌, ◌==◌, if◌then◌else◌, List, [], ◌∷◌, length, None, is_none, pos, ◌+ℤ◌, ◌-ℤ◌, ◌≤ℤ◌}
-use Rattle.model.specs.Frames.{Frame, ends_stream, no_error, internal_error}
+use Rattle.std.specs.Prelude.{◌≡◌, ℕ, Bool, true, false, not, ◌&&◌, ◌||◌, ◌==◌, if◌then◌else◌, List, [], ◌∷◌, length, None, is_none, pos, ◌+ℤ◌, ◌-ℤ◌, ◌≤ℤ◌}
+use Rattle.model.specs.Frames.{Frame, ends_stream, goaway, no_error, internal_error}
+use Rattle.model.specs.Limits.{most_streams}
 use Rattle.model.specs.Setup.{Setup}
 use Rattle.model.specs.Logs.{Event}
 use Rattle.model.specs.Logs.Event.{Up, UpEnd, UpFailed, UpTook}
@@ -9,8 +10,8 @@ use Rattle.model.specs.ErrorClause.{rst_stream}
 use Rattle.model.specs.WindowsOnTape.{increment}
 use Rattle.theory_errors.specs.Summary.{Stream as Kept}
 use Rattle.theory_errors.specs.Judging.{window_in}
-use Rattle.theory_errors.specs.Owing.{owes_in}
-use Rattle.theory_errors.specs.Rows.{Row, find, slot_of}
+use Rattle.theory_errors.specs.Owing.{owes_in, highest_in}
+use Rattle.theory_errors.specs.Rows.{Row, find, ids_of, slot_of}
 use Rattle.theory_errors.specs.Rows.Slot.{Over}
 use Rattle.theory_errors.specs.Book.{Book, summary_in, book_after}
 use Rattle.theory_errors.specs.Quiet.{paid_of}
@@ -72,6 +73,11 @@ is_of_upstream (UpEnd k) = true
 is_of_upstream (UpFailed k) = true
 is_of_upstream (UpTook k count) = true
 is_of_upstream _ = false
+
+-- the GOAWAY that the operator's wish for the end calls for, unless none might be opened before it (RFC 9113, section 6.8)
+abbrev pub goaway_of_drain : Book → List Frame
+goaway_of_drain book =
+    if book.drained || length book.rows == most_streams then [] else goaway (highest_in (ids_of book.rows)) no_error ∷ []
 
 -- the book behind the event with which the answer for a stream fails
 abbrev pub behind_failure : Book → ℕ → Book

@@ -67,7 +67,7 @@ fn reset(streams: &mut StreamTable, id: u32) -> Result<(), AllocError>
 
 /// Refuses a block by the state of its stream (RFC 9113, section 5.1).
 fn refuse(streams: &mut StreamTable, id: u32, fault: FrameError) -> Result<BlockJudged, AllocError>
-    requires is { fault_by (verdict streams.old id 1) ≡ Some (fault_told fault) }
+    requires is { fault_by (verdict false streams.old id 1) ≡ Some (fault_told fault) }
     requires wanted { is_of_stream (Some (fault_told fault)) ≡ true → IsOpenOrIdle streams.old id }
     requires kept { AreKept streams.old }
     ensures settled { IfOk result (λ answer. (setup : Setup) (fields : List Line) (ends : Bool) → Settles setup streams.old id fields ends streams.new answer) }
@@ -145,7 +145,7 @@ fn pass_over(
     ends: bool,
     course: Course,
 ) -> Result<BlockJudged, AllocError>
-    requires passes { fault_by (verdict streams.old id 1) ≡ None }
+    requires passes { fault_by (verdict false streams.old id 1) ≡ None }
     requires wanted { IsOpenOrIdle streams.old id }
     requires course { outline_of course ≡ (find streams.old id).outline }
     requires replied { is_some course.reply ≡ true }
@@ -178,7 +178,7 @@ fn take_trailers(
     course: Course,
     fields: &[Field],
 ) -> Result<BlockJudged, AllocError>
-    requires passes { fault_by (verdict streams.old id 1) ≡ None }
+    requires passes { fault_by (verdict false streams.old id 1) ≡ None }
     requires wanted { IsOpenOrIdle streams.old id }
     requires course { outline_of course ≡ (find streams.old id).outline }
     requires begun { course.begun ≡ true }
@@ -233,7 +233,7 @@ fn take_head(
     fields: &[Field],
     terms: Terms<'_>,
 ) -> Result<BlockJudged, AllocError>
-    requires passes { fault_by (verdict streams.old id 1) ≡ None }
+    requires passes { fault_by (verdict false streams.old id 1) ≡ None }
     requires wanted { IsOpenOrIdle streams.old id }
     requires course { outline_of before.course ≡ (find streams.old id).outline }
     requires head_out { before.head_out ≡ (find streams.old id).head_out }
@@ -264,7 +264,7 @@ fn take_fields(
     fields: &[Field],
     terms: Terms<'_>,
 ) -> Result<BlockJudged, AllocError>
-    requires passes { fault_by (verdict streams.old id 1) ≡ None }
+    requires passes { fault_by (verdict false streams.old id 1) ≡ None }
     requires wanted { IsOpenOrIdle streams.old id }
     requires course { outline_of before.course ≡ (find streams.old id).outline }
     requires head_out { before.head_out ≡ (find streams.old id).head_out }
@@ -298,7 +298,7 @@ fn judge_block(
         → Settles setup streams.old id fields ends streams.new answer) }
     ensures kept { AreKept streams.new }
 {
-    if let Some(fault) = fault_of(streams.verdict(id, Kind::Headers)) {
+    if let Some(fault) = fault_of(streams.verdict(false, id, Kind::Headers)) {
         return refuse(streams, id, fault);
     }
     let before = kept_before(streams, id);
@@ -324,7 +324,7 @@ fn is_last(streams: &StreamTable, id: u32) -> bool
     if streams.count() != ALL_BUT_ONE {
         return false;
     }
-    if fault_of(streams.verdict(id, Kind::Headers)).is_some() {
+    if fault_of(streams.verdict(false, id, Kind::Headers)).is_some() {
         return false;
     }
     streams.find(id).is_none()

@@ -1,6 +1,6 @@
 //! What is kept of a connection for its client's frames.
 
-ghost use Rattle.std.specs.Prelude.{◌≡◌, ◌≤◌, ◌==◌, ◌&&◌, [], ◌∷◌, length, false, true, None, Some, IfOk, IfErr};
+ghost use Rattle.std.specs.Prelude.{◌≡◌, ◌<◌, ◌≤◌, ◌==◌, ◌&&◌, [], ◌∷◌, length, false, true, None, Some, IfOk, IfErr};
 ghost use Rattle.std.specs.Prelude.{IfSome, IfNone, OnOk, OnErr, option_map, pos, ◌+ℤ◌, ◌-ℤ◌, int_lt};
 ghost use Rattle.model.specs.Setup.{Setup};
 ghost use Rattle.model.specs.Tables.{first_table};
@@ -9,7 +9,7 @@ ghost use Rattle.model.specs.Errors.Fault.{Connection as Fatal, Stream as Stream
 ghost use Rattle.model.specs.FrameErrors.{fault_if};
 ghost use Rattle.model.specs.Windows.{IsSize};
 ghost use Rattle.model.specs.WindowsOnTape.{is_past};
-ghost use Rattle.theory_errors.specs.Judging.{window_in};
+ghost use Rattle.theory_errors.specs.Judging.{window_in, room_in};
 ghost use Rattle.theory_errors.specs.Rows.{find, slot_of};
 ghost use Rattle.theory_errors.specs.Rows.Slot.{Live as Active};
 ghost use Rattle.stream_state.specs.Views.{kind_in, verdict_in};
@@ -58,7 +58,9 @@ pub struct Connection {
     pub(crate) continuations: u32,
     pub(crate) settings: Settings,
     pub(crate) window: Window,
+    pub(crate) own: u32,
     pub(crate) room: Window,
+    pub(crate) drained: bool,
     pub(crate) streams: StreamTable,
     pub(crate) resets: u32,
     pub(crate) last: u32,
@@ -76,21 +78,25 @@ impl Model for Connection {
       block = c.joiner.begun;
       continuations = c.continuations;
       first_size = c.settings;
+      own = c.own;
       window = c.window;
       room = c.room;
+      drained = c.drained;
       rows = c.streams;
       resets = c.resets;
       last = c.last;
       table = c.decoder.table;
     } };
 
-    ghost invariant = { λ c. IsWhole c.streams c.joiner c.continuations c.decoder.fault };
+    ghost invariant = { λ c. IsWhole c.own c.streams c.joiner c.continuations c.decoder.fault };
 }
 
 impl Connection {
-    /// A connection on which nothing came.
-    pub fn new(alloc: Global) -> Self
-        ensures book { (setup : Setup) → book_of (record { given = []; untaken = 0 }) result ≡ (first_ledger setup).book }
+    /// A connection on which nothing came, where the windows in which the gateway receives have so
+    /// many octets more than 65,535 (RFC 9113, section 6.9.2).
+    pub fn new(alloc: Global, more_room: u32) -> Self
+        requires { more_room < 2147418113 }
+        ensures book { (setup : Setup) → setup.more_room ≡ more_room → book_of (record { given = []; untaken = 0 }) result ≡ (first_ledger setup).book }
         ensures table { result.table ≡ first_table }
     {
         Connection {
@@ -99,7 +105,9 @@ impl Connection {
             continuations: 0,
             settings: Settings::default(),
             window: Window::new(FIRST_WINDOW),
+            own: FIRST_WINDOW + more_room,
             room: Window::new(FIRST_WINDOW),
+            drained: false,
             streams: StreamTable::new(alloc),
             resets: 0,
             last: 0,
@@ -129,10 +137,10 @@ impl Connection {
     /// What comes of a type of frame on an id by the state of its stream (RFC 9113, section 5.1).
     /// Where the answer is `Open`, the stream may be opened.
     pub fn verdict(&self, id: u32, kind: Kind) -> Verdict
-        ensures is { verdict_in result ≡ verdict self.now.rows id (kind_in kind) }
+        ensures is { verdict_in result ≡ verdict self.now.drained self.now.rows id (kind_in kind) }
         ensures allows { AllowsOpening result self.now.rows id }
     {
-        self.streams.verdict(id, kind)
+        self.streams.verdict(self.drained, id, kind)
     }
 
     /// What a frame says, if nothing is wrong with it by itself and by the header block that is
@@ -295,7 +303,9 @@ impl Connection {
             → IsJudged setup (book_of outside self.old) (frame_of view.entry) (book_of outside self.new) result }
         ensures table { self.new.table ≡ self.old.table }
     {
-        if let Some(fault) = fault_of(self.streams.verdict(view.id, Kind::RstStream)) {
+        if let Some(fault) = fault_of(
+            self.streams.verdict(self.drained, view.id, Kind::RstStream),
+        ) {
             return self.pass_over(view, fault);
         }
         if self.resets >= MOST_RESETS {
@@ -317,7 +327,10 @@ impl Connection {
             → IsJudged setup (book_of outside self.old) (frame_of view.entry) (book_of outside self.new) result }
         ensures table { self.new.table ≡ self.old.table }
     {
-        if let Some(fault) = fault_of(self.streams.verdict(view.id, Kind::WindowUpdate)) {
+        if let Some(fault) = fault_of(
+            self.streams
+                .verdict(self.drained, view.id, Kind::WindowUpdate),
+        ) {
             return self.pass_over(view, fault);
         }
         if let Some(code) = update_code(&self.streams, &self.settings, view.id, increment) {
@@ -340,8 +353,8 @@ impl Connection {
         ensures refused { IfSome result (λ fault. IsRefused self.now (frame_of view.entry) (fault_told fault)) }
         ensures admitted { IfNone result (IsAdmitted self.now (frame_of view.entry)) }
     {
-        let fault = fault_of(self.streams.verdict(view.id, Kind::Data));
-        if self.streams.standing(view.id).is_idle() {
+        let fault = fault_of(self.streams.verdict(self.drained, view.id, Kind::Data));
+        if self.streams.standing(self.drained, view.id).is_idle() {
             return fault;
         }
         if is_past_room(&self.room, view.payload.len() as u32) {
@@ -401,7 +414,7 @@ impl Connection {
         requires none_begun { self.old.block ≡ None }
         requires short { length view.payload.now ≤ 16384 }
         requires admitted { IsAdmitted self.old (frame_of view) }
-        requires fits { int_lt (find self.old.rows view.id).room (pos (length view.payload.now)) ≡ false }
+        requires fits { int_lt (room_in self.old.own (find self.old.rows view.id)) (pos (length view.payload.now)) ≡ false }
         ensures { self.new ≡ record self.old {
           has_come = true;
           continuations = 0;
@@ -436,7 +449,7 @@ impl Connection {
             unreachable!();
         };
         let (count, ends) = (octets.len() as u32, ends_stream(view));
-        let code = body_code(live, view.payload.len() as u32, count, ends);
+        let code = body_code(live, self.own, view.payload.len() as u32, count, ends);
         let before = live.course();
         let next = before.with_content(count, ends, max_body, live.head_out());
         if let Some(code) = code {

@@ -1,6 +1,6 @@
 //! Frames with a fragment of a header block: HEADERS and CONTINUATION (RFC 9113, sections 4.3, 6.2 and 6.10).
 
-ghost use Rattle.std.specs.Prelude.{◌≡◌, ◌≤◌, ◌==◌, false, length, None, Some, OnOk, OnErr, IfOk, IfSome, IfNone};
+ghost use Rattle.std.specs.Prelude.{◌≡◌, ◌≤◌, ◌==◌, true, false, length, None, Some, OnOk, OnErr, IfOk, IfSome, IfNone};
 ghost use Rattle.model.specs.Decoding.{Partial};
 ghost use Rattle.model.specs.Limits.{largest_fields};
 ghost use Rattle.theory_header_tables.specs.Answers.{IsReadAs};
@@ -15,6 +15,10 @@ ghost use Rattle.theory_errors.specs.Owing.{fault_in};
 ghost use Rattle.theory_errors.specs.Quiet.{coming};
 ghost use Rattle.connection_state.specs.Inbound.{Inbound, Outside, book_of, told_of};
 ghost use Rattle.connection_state.specs.Judgement.{behind};
+ghost use Rattle.connection_state.specs.Draining.{is_beyond, AreAsEver};
+ghost use Rattle.stream_state.specs.Views.{standing_in};
+ghost use Rattle.streams.specs.Asked.{standing};
+ghost use Rattle.model.specs.StreamStates.Standing.{Beyond};
 
 use crate::answers::{BlockJudged, FrameError};
 use crate::blocks::settle;
@@ -26,6 +30,8 @@ use header_blocks::{DecodeFault, Decoded, Decoder};
 use protocol::error_codes::COMPRESSION_ERROR;
 use protocol::limits::{FIRST_TABLE_SIZE, LARGEST_FIELDS};
 use std::alloc::AllocError;
+use stream_state::Standing;
+use streams::StreamTable;
 
 impl Connection {
     /// Keeps the fragment of a HEADERS whose block goes on. An `Err` says that memory was refused.
@@ -110,6 +116,9 @@ impl Connection {
         };
         self.has_come = true;
         self.last = view.id;
+        if is_beyond(self.drained, &self.streams, view.id) {
+            return Ok(BlockJudged::Failed(FrameError::Discarded));
+        }
         settle(
             self.alloc,
             &mut self.streams,
@@ -199,6 +208,28 @@ impl Connection {
             Ok(_) => unreachable!(),
             Err(code) => Ok(BlockJudged::Failed(FrameError::Connection(code))),
         }
+    }
+}
+
+/// Whether an id is above all that were opened on a connection that is drained: what comes on it is
+/// discarded (RFC 9113, section 6.8).
+fn is_beyond(drained: bool, streams: &StreamTable, id: u32) -> bool
+    ensures beyond { result ≡ true → (drained ≡ true) × (standing true streams.now id ≡ Beyond) }
+    ensures as_ever { result ≡ false → AreAsEver drained streams.now id }
+{
+    if !drained {
+        return false;
+    }
+    is_above_last(streams.standing(true, id))
+}
+
+/// Whether an id stands above the last that a GOAWAY named.
+fn is_above_last(standing: Standing) -> bool
+    ensures { result ≡ is_beyond (standing_in standing) }
+{
+    match standing {
+        Standing::Beyond => true,
+        _ => false,
     }
 }
 

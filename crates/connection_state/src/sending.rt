@@ -2,17 +2,18 @@
 //! back, and upstreams' answers that failed. Whoever sends a frame notes it here;
 //! `sent_frames_lead` says that this is what the book of `theory_errors` is behind it.
 
-ghost use Rattle.std.specs.Prelude.{◌≡◌, ◌≤◌, true, pos, ◌+ℤ◌, ◌-ℤ◌, ◌≤ℤ◌};
+ghost use Rattle.std.specs.Prelude.{◌≡◌, ◌≤◌, true, if◌then◌else◌, Some, None, pos, ◌+ℤ◌, ◌-ℤ◌, ◌≤ℤ◌};
 ghost use Rattle.model.specs.Windows.{IsSize};
 ghost use Rattle.model.specs.Limits.{greatest_window};
 ghost use Rattle.theory_errors.specs.Judging.{window_in};
-ghost use Rattle.theory_errors.specs.Owing.{must_end_in};
-ghost use Rattle.theory_errors.specs.Rows.{find};
+ghost use Rattle.theory_errors.specs.Owing.{must_end_in, highest_in};
+ghost use Rattle.theory_errors.specs.Rows.{find, ids_of};
 ghost use Rattle.theory_errors.specs.Rows.Slot.{Over as Done};
 ghost use Rattle.theory_errors.specs.Tidy.{AreKept};
 ghost use Rattle.streams.specs.Asked.{is_active, changed};
 ghost use Rattle.streams.specs.Sending.{head_sent, data_sent, given_back, failed, AreReturnable, is_served};
 ghost use Rattle.connection_state.specs.Inbound.{Outside, told_of};
+ghost use Rattle.connection_state.specs.Draining.{is_full_in};
 ghost use Rattle.connection_state.specs.Sending.{with_kept, AreWithin};
 
 use crate::connection::Connection;
@@ -58,11 +59,13 @@ impl Connection {
     }
 
     /// Notes that so many octets were given back to the connection (RFC 9113, section 6.9), whose
-    /// receiving window has room for them.
+    /// receiving window has no more then than it is to have at first.
     pub fn gave_back(&mut self, octets: u32)
-        requires { (self.old.room +ℤ pos octets) ≤ℤ pos greatest_window }
+        requires { (self.old.room +ℤ pos octets) ≤ℤ pos self.old.own }
         ensures { self.new ≡ record self.old { room = self.old.room +ℤ pos octets } }
     {
+        // The size with which receiving windows begin is a window's.
+        let _own = self.receiving_window();
         let _ = self.room.grant(octets);
     }
 
@@ -101,6 +104,15 @@ impl Connection {
         self.room.left()
     }
 
+    /// The size with which receiving windows begin, in octets, of at most 2,147,483,647: those of
+    /// streams, and that of the connection once it was made as large (RFC 9113, section 6.9.2).
+    pub fn receiving_window(&self) -> u32
+        ensures is { result ≡ self.now.own }
+        ensures in_range { self.now.own ≤ greatest_window }
+    {
+        self.own
+    }
+
     /// The size with which streams' sending windows begin, in octets, of at most 2,147,483,647 (RFC
     /// 9113, section 6.9.2).
     pub fn first_size(&self) -> u32
@@ -117,12 +129,34 @@ impl Connection {
         i64::from(self.settings.initial_window()) + live.balance()
     }
 
-    /// Whether the connection is to end, though nothing that came calls for it: all streams that it
-    /// may have were opened, and none is active any more (RFC 9113, section 6.8).
+    /// Whether no stream may be opened any more: all were that a connection may have, or it is drained.
+    fn is_full(&self) -> bool
+        ensures { result ≡ is_full_in self.now }
+    {
+        self.drained || self.streams.count() == MOST_STREAMS
+    }
+
+    /// Notes that the operator wants the connection to end: no stream is opened from now on. Answers
+    /// the highest that was, or 0, for the GOAWAY that says so (RFC 9113, section 6.8), unless none
+    /// might be opened before.
+    pub fn drain(&mut self) -> Option<u32>
+        ensures drained { self.new ≡ record self.old { drained = true } }
+        ensures last { result ≡ (if is_full_in self.old then None else Some (highest_in (ids_of self.old.rows))) }
+    {
+        let was_full = self.is_full();
+        self.drained = true;
+        if was_full {
+            return None;
+        }
+        Some(self.streams.highest())
+    }
+
+    /// Whether the connection is to end, though nothing that came calls for it: no stream may be
+    /// opened any more, and none is active (RFC 9113, section 6.8).
     pub fn is_exhausted(&self) -> bool
         ensures { (outside : Outside) → result ≡ must_end_in (told_of outside self.now) }
     {
-        self.streams.count() == MOST_STREAMS && self.streams.active() == 0
+        self.is_full() && self.streams.active() == 0
     }
 
     /// The streams of the connection (RFC 9113, section 5.1).

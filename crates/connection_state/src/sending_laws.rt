@@ -1,12 +1,13 @@
 //! What the gateway's own doing leads to in the book of `theory_errors`.
 
-ghost use Rattle.std.specs.Prelude.{◌≡◌, ℕ, ◌-◌, ◌<◌, Bool, true, false, not, ◌&&◌, ◌==◌, List, [], ◌∷◌, ◌++◌, Some, None};
+ghost use Rattle.std.specs.Prelude.{◌≡◌, ℕ, ◌-◌, ◌<◌, ◌≤◌, length, Bool, true, false, not, ◌&&◌, ◌==◌, List, [], ◌∷◌, ◌++◌, Some, None};
 ghost use Rattle.model.specs.Messages.{Field};
 ghost use Rattle.model.specs.Messages.Item.{Block};
 ghost use Rattle.model.specs.Frames.{Frame, data_kind, rst_stream_kind, window_update_kind, ends_headers, ends_stream, spell_number};
 ghost use Rattle.model.specs.Setup.{Setup};
 ghost use Rattle.model.specs.Logs.{Event, Act};
-ghost use Rattle.model.specs.Logs.Event.{ClientTook};
+ghost use Rattle.model.specs.Logs.Event.{ClientTook, Drain};
+ghost use Rattle.model.specs.Limits.{most_streams};
 ghost use Rattle.model.specs.Logs.Act.{Open, ToUp, Close, CloseClient};
 ghost use Rattle.model.specs.Tapes.{Noted};
 ghost use Rattle.model.specs.Tapes.Note.{Fields};
@@ -24,7 +25,7 @@ ghost use Rattle.theory_errors.specs.Tidy.{AreKept};
 ghost use Rattle.theory_errors.specs.Quiet.{IsControl, sending, paid_of};
 ghost use Rattle.connection_state.specs.Judgement.{update};
 ghost use Rattle.connection_state.specs.Sending.{LeadsTo, behind_head, behind_data, behind_reset, behind_update};
-ghost use Rattle.connection_state.specs.Sending.{behind_stream_update, early_reset, is_of_upstream, behind_failure};
+ghost use Rattle.connection_state.specs.Sending.{behind_stream_update, early_reset, is_of_upstream, goaway_of_drain, behind_failure};
 ghost use Rattle.connection_state.specs.Sending.{reset_if_out};
 
 /// What a frame that is sent leads to: the book behind it, and what it calls for.
@@ -68,7 +69,8 @@ pub fn acts_lead()
 /// What an event that isn't octets of the client leads to, unless it is the client's end.
 /// - `fails`: the answer for a stream fails with an event of its upstream. It calls for a reset
 ///   where a final head is out, unless the gateway replies itself already;
-/// - `heard`: no answer fails with it; `took`: the client's side took octets.
+/// - `heard`: no answer fails with it; `took`: the client's side took octets;
+/// - `drains`: the operator asks for the end. It calls for the GOAWAY, unless none might be opened before.
 pub fn events_lead()
     ensures fails { (setup : Setup) (book : Book) (event : Event) (stream : ℕ) → AreKept book.rows → (upstream_of event == 0) ≡ false
         → given (upstream_of event) book.given ≡ stream → (stream == 0) ≡ false
@@ -77,6 +79,8 @@ pub fn events_lead()
         → LeadsTo setup false book (Happened event) (record book { ends = false }) [] }
     ensures took { (setup : Setup) (book : Book) (count : ℕ) → AreKept book.rows
         → LeadsTo setup false book (Happened (ClientTook count)) (record book { ends = false; untaken = book.untaken - count }) [] }
+    ensures drains { (setup : Setup) (book : Book) → AreKept book.rows → length book.rows ≤ most_streams
+        → LeadsTo setup false book (Happened Drain) (record book { ends = false; drained = true }) (goaway_of_drain book) }
 {}
 
 /// What is kept and owed behind an entry that leads so: a frame that is sent pays what is owed

@@ -29,21 +29,23 @@ enum Step {
     Verdicts(u32, Verdict, Verdict, Verdict, Verdict),
     /// Where a number stands, and whether that is idle.
     Standing(u32, Standing, bool),
+    /// Where a number stands on a connection that is drained.
+    Drained(u32, Standing),
 }
 
 /// The verdicts on DATA, HEADERS, RST_STREAM and WINDOW_UPDATE.
 fn verdicts(streams: &Streams, id: u32) -> [Verdict; 4] {
     [
-        streams.verdict(id, Kind::Data),
-        streams.verdict(id, Kind::Headers),
-        streams.verdict(id, Kind::RstStream),
-        streams.verdict(id, Kind::WindowUpdate),
+        streams.verdict(false, id, Kind::Data),
+        streams.verdict(false, id, Kind::Headers),
+        streams.verdict(false, id, Kind::RstStream),
+        streams.verdict(false, id, Kind::WindowUpdate),
     ]
 }
 
 /// Opens a stream where the verdict allows it, and says whether it does.
 fn opens(streams: &mut Streams, id: u32) -> Result<bool, AllocError> {
-    match streams.verdict(id, Kind::Headers) {
+    match streams.verdict(false, id, Kind::Headers) {
         Verdict::Open => {
             streams.open(id)?;
             Ok(true)
@@ -57,7 +59,7 @@ fn are_counted(streams: &Streams, active: u32, count: u32, highest: u32) -> bool
 }
 
 fn stands(streams: &Streams, id: u32, wanted: Standing, is_idle: bool) -> bool {
-    let standing = streams.standing(id);
+    let standing = streams.standing(false, id);
     standing == wanted && standing.is_idle() == is_idle
 }
 
@@ -75,6 +77,7 @@ fn answers(streams: &mut Streams, step: Step) -> Result<bool, AllocError> {
             return Ok(verdicts(streams, id) == [data, headers, reset, update]);
         }
         Step::Standing(id, wanted, is_idle) => return Ok(stands(streams, id, wanted, is_idle)),
+        Step::Drained(id, wanted) => return Ok(streams.standing(true, id) == wanted),
     }
     Ok(true)
 }
@@ -190,7 +193,7 @@ fn the_last_of_ten_thousand(rt: HostRuntime) -> Result<(), Fail> {
     Ok(())
 }
 
-static STANDINGS: [Step; 14] = [
+static STANDINGS: [Step; 19] = [
     Step::Standing(1, Standing::Idle, true),
     Step::Open(3),
     Step::Open(7),
@@ -205,6 +208,11 @@ static STANDINGS: [Step; 14] = [
     Step::Standing(7, Standing::Opened(State::Open), false),
     Step::Standing(8, Standing::ServerIdle, true),
     Step::Standing(9, Standing::Idle, true),
+    Step::Drained(6, Standing::ServerIdle),
+    Step::Drained(5, Standing::Skipped),
+    Step::Drained(7, Standing::Opened(State::Open)),
+    Step::Drained(8, Standing::Beyond),
+    Step::Drained(9, Standing::Beyond),
 ];
 
 #[test]

@@ -122,3 +122,4 @@ module _ (setup : Setup) (g : Standing) (log : List Step) (run : List Move) (sta
   of_none rooms are event.ClientEnd keeps refused j of = cc
   of_none rooms are (event.ClientTook count) keeps refused j of = cc
   of_none rooms are (event.UpTook k count) keeps refused j of = cc
+  of_none rooms are event.Drain keeps refused j of = cc

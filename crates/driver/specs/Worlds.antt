@@ -75,6 +75,7 @@ peer_of (event.Client octets) = peer.Client
 peer_of event.ClientEnd = peer.Client
 peer_of (event.ClientTook count) = peer.World
 peer_of (event.UpTook k count) = peer.World
+peer_of event.Drain = peer.World
 
 -- whether an output closes the client
 abbrev pub closes : logs.Output → Bool

@@ -157,6 +157,7 @@ fn copy_event(alloc: Global, event: &Event) -> Result<Event, AllocError>
         Event::UpEnd(k) => Event::UpEnd(*k),
         Event::UpFailed(k) => Event::UpFailed(*k),
         Event::UpTook(k, count) => Event::UpTook(*k, *count),
+        Event::Drain => Event::Drain,
     })
 }
 

@@ -65,7 +65,7 @@ fn whose(event: &Event) -> Peer
     match event {
         Event::Up(k, _) | Event::UpEnd(k) | Event::UpFailed(k) => Peer::Upstream(*k),
         Event::Client(_) | Event::ClientEnd => Peer::Client,
-        Event::ClientTook(_) | Event::UpTook(_, _) => Peer::World,
+        Event::ClientTook(_) | Event::UpTook(_, _) | Event::Drain => Peer::World,
     }
 }
 

@@ -14,6 +14,7 @@ event_of (event.Up k piece) = logs.Event.Up k piece.items
 event_of (event.UpEnd k) = logs.Event.UpEnd k
 event_of (event.UpFailed k) = logs.Event.UpFailed k
 event_of (event.UpTook k count) = logs.Event.UpTook k count
+event_of event.Drain = logs.Event.Drain
 
 abbrev pub output_of : Output → logs.Output
 output_of (output.Client octets) = logs.Output.ToClient octets.items

@@ -1,7 +1,7 @@
 //! Frames of the connection, and those that are no part of a response.
 
 ghost use Rattle.std.specs.Prelude.{◌≡◌, ◌<◌, ◌≤◌, ◌++◌, length, OnOk};
-ghost use Rattle.model.specs.Frames.{spell, spell_number, settings_frame, settings_ack, goaway};
+ghost use Rattle.model.specs.Frames.{spell, spell_number, setting, settings_frame, settings_ack, goaway};
 ghost use Rattle.model.specs.ErrorClause.{rst_stream, ping_ack};
 ghost use Rattle.model.specs.Logs.Output.{ToClient};
 ghost use Rattle.model.specs.Tapes.{put};
@@ -11,8 +11,8 @@ use crate::outputs::Outputs;
 use frames::View;
 use protocol::flags::ACK;
 use protocol::frame_types::{GOAWAY, PING, RST_STREAM, SETTINGS, WINDOW_UPDATE};
-use protocol::limits::{LARGEST_FIELDS, MOST_ACTIVE};
-use protocol::setting_ids::{MAX_CONCURRENT_STREAMS, MAX_HEADER_LIST_SIZE};
+use protocol::limits::{FIRST_WINDOW, LARGEST_FIELDS, MOST_ACTIVE};
+use protocol::setting_ids::{INITIAL_WINDOW_SIZE, MAX_CONCURRENT_STREAMS, MAX_HEADER_LIST_SIZE};
 use std::alloc::AllocError;
 
 /// What the gateway announces: SETTINGS_MAX_CONCURRENT_STREAMS (3) 100, SETTINGS_MAX_HEADER_LIST_SIZE (6) 16,384
@@ -31,6 +31,33 @@ const ANNOUNCED: [u8; 12] = [
     (LARGEST_FIELDS / 256) as u8,
     (LARGEST_FIELDS % 256) as u8,
 ];
+
+/// The same, with SETTINGS_INITIAL_WINDOW_SIZE (4), where windows begin with this size.
+fn announced(window: u32) -> [u8; 18]
+    ensures { result ≡ setting 3 100 ++ (setting 6 16384 ++ setting 4 window) }
+{
+    let [a, b, c, d] = window.to_be_bytes();
+    [
+        0,
+        MAX_CONCURRENT_STREAMS as u8,
+        0,
+        0,
+        0,
+        MOST_ACTIVE as u8,
+        0,
+        MAX_HEADER_LIST_SIZE as u8,
+        0,
+        0,
+        (LARGEST_FIELDS / 256) as u8,
+        (LARGEST_FIELDS % 256) as u8,
+        0,
+        INITIAL_WINDOW_SIZE as u8,
+        a,
+        b,
+        c,
+        d,
+    ]
+}
 
 /// The octets of GOAWAY's payload (RFC 9113, section 6.8): the last stream, and the error code.
 fn goaway(last: u32, code: u32) -> [u8; 8]
@@ -66,11 +93,16 @@ impl Outputs {
     }
 
     /// Announces the gateway's settings (RFC 9113, section 6.5): at most 100 concurrent streams,
-    /// and header lists of at most 16,384 octets.
-    pub fn send_settings(&mut self) -> Result<(), AllocError>
-        ensures { OnOk result (self.new ≡ put self.old (ToClient (spell settings_frame))) }
+    /// header lists of at most 16,384 octets, and the size with which the windows begin in which it
+    /// receives, where that is by so many octets more than 65,535 (RFC 9113, section 6.9.2).
+    pub fn send_settings(&mut self, more_room: u32) -> Result<(), AllocError>
+        requires { more_room < 2147418113 }
+        ensures { OnOk result (self.new ≡ put self.old (ToClient (spell (settings_frame more_room)))) }
     {
-        self.send_control(SETTINGS, 0, &ANNOUNCED)
+        if more_room == 0 {
+            return self.send_control(SETTINGS, 0, &ANNOUNCED);
+        }
+        self.send_control(SETTINGS, 0, &announced(FIRST_WINDOW + more_room))
     }
 
     /// Acknowledges the client's settings (RFC 9113, section 6.5.3).

@@ -19,6 +19,8 @@ pub enum Event {
     UpFailed(u32),
     /// An upstream's side took so many of the octets that were put out for it.
     UpTook(u32, u64),
+    /// The operator wants the connection with the client to end (RFC 9113, section 6.8).
+    Drain,
 }
 
 /// What a gateway puts out.

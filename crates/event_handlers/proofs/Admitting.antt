@@ -4,7 +4,7 @@ use Rattle.std.specs.Prelude.{is_some, nat_le, option_map}
 use Rattle.std.proofs.lemmas.Bool.{leb-true, le-leb}
 use Rattle.model.specs.Setup.{Setup}
 use Rattle.model.specs.Logs.{Event}
-use Rattle.model.specs.Logs.Event.{Client, ClientEnd, ClientTook, Up, UpEnd, UpFailed, UpTook}
+use Rattle.model.specs.Logs.Event.{Client, ClientEnd, ClientTook, Up, UpEnd, UpFailed, UpTook, Drain}
 use Rattle.model.specs.Tapes.{Entry}
 use Rattle.model.specs.Admission.{is_open}
 use Rattle.model.specs.Openings.{Opened, given}
@@ -138,6 +138,7 @@ module _ (setup : Setup) (run : List Move) (kept : View) (pending : Pending) (s 
   come (UpEnd k) = and_true (gates.is_up k) ∙ up k
   come (UpFailed k) = and_true (gates.is_up k) ∙ up k
   come (UpTook k count) = and_true (gates.is_up k && nat_le (rooms.took k + count) (rooms.out k)) ∙ ap (λ b. b && nat_le (rooms.took k + count) (rooms.out k)) (up k) ∙ taken k count (find number_of k kept.upstreams.live) refl
+  come Drain = refl
 
   beside : (event : Event) → admits_beside gates rooms (held_on kept) event ≡ admits kept event
   beside event = ap (λ b. (not b && receiving_policy.may_come gates rooms event) && Rattle.theory_receive_windows.specs.Rooms.fits gates (held_on kept) event) open_yet ∙ come event

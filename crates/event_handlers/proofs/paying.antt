@@ -9,4 +9,5 @@ pub mod Giving
 pub mod Settling
 pub mod Fitting
 pub mod Settled
+pub mod Greets
 pub mod Taken

@@ -1,7 +1,7 @@
 -- Which event may come, by what is kept.
 use Rattle.std.specs.Prelude.{ℕ, ◌+◌, ◌-◌, Bool, true, false, ◌&&◌, nat_le, if◌then◌else◌, length, Option, Some, None, is_some}
 use Rattle.model.specs.Logs.{Event}
-use Rattle.model.specs.Logs.Event.{Client, ClientEnd, ClientTook, Up, UpEnd, UpFailed, UpTook}
+use Rattle.model.specs.Logs.Event.{Client, ClientEnd, ClientTook, Up, UpEnd, UpFailed, UpTook, Drain}
 use Rattle.model.specs.Setup.{Passing}
 use Rattle.model.specs.Setup.Passing.{Whole, Streaming}
 use Rattle.theory_responses.specs.State as theory_responses
@@ -55,3 +55,4 @@ admits kept (Up k piece) = is_up kept k && nat_le (length piece) (room_on kept k
 admits kept (UpEnd k) = is_up kept k
 admits kept (UpFailed k) = is_up kept k
 admits kept (UpTook k count) = may_take (find number_of k kept.upstreams.live) count
+admits kept Drain = true

@@ -7,6 +7,7 @@ pub mod Stopping
 pub mod Closings
 pub mod MidStep
 pub mod Forgetting
+pub mod Draining
 pub mod paying
 pub mod plain_frames
 pub mod block_frames

@@ -1,3 +1,4 @@
 pub mod Controls
+pub mod Greeting
 pub mod Returning
 pub mod Taking

@@ -10,6 +10,7 @@
 mod asking;
 pub mod block_frames;
 mod crowding;
+mod draining;
 pub mod ending;
 pub mod exchanges;
 pub mod flushing;
@@ -22,6 +23,7 @@ pub mod plain_frames;
 mod resting;
 mod taking;
 
+pub use crate::draining::drain;
 pub use crate::halt::Halt;
 pub use crate::hearing::{client_took, end, fail, hear, up_took};
 pub use crate::leaving::{Breach, leave, leave_at};

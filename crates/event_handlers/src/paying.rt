@@ -13,12 +13,13 @@
 mod closing;
 mod control;
 mod counting;
+mod greeting;
 mod returning;
 mod taking;
 
 pub use crate::paying::closing::close_unserved;
-pub use crate::paying::control::greet;
 pub(crate) use crate::paying::control::{Control, pay};
+pub use crate::paying::greeting::greet;
 pub use crate::paying::returning::{return_dropped, return_taken, settle};
 pub(crate) use crate::paying::taking::is_nothing;
 pub use crate::paying::taking::{note_client_took, note_up_took};

@@ -3,7 +3,7 @@ use Rattle.std.proofs.Common.{◌≡◌, ℕ, true, false, Bool, not, ◌&&◌, 
 use Rattle.std.specs.Prelude.{is_some, option_map}
 use Rattle.std.proofs.lemmas.Bool.{and_parts}
 use Rattle.model.specs.Logs.{Event, Step, client_in}
-use Rattle.model.specs.Logs.Event.{Client, ClientEnd, ClientTook, Up, UpEnd, UpFailed, UpTook}
+use Rattle.model.specs.Logs.Event.{Client, ClientEnd, ClientTook, Up, UpEnd, UpFailed, UpTook, Drain}
 use Rattle.model.specs.Setup.{Setup, Passing}
 use Rattle.model.specs.Setup.Passing.{Whole, Streaming}
 use Rattle.model.specs.Tapes.{Entry, is_closed}
@@ -110,6 +110,7 @@ module _ (setup : Setup) (run : List Move) (kept : View) (pending : Pending) (s 
   are_held (UpEnd k) = tt
   are_held (UpFailed k) = tt
   are_held (UpTook k count) = tt
+  are_held Drain = tt
 
   open_admits : (event : Event) → admits_kept kept event ≡ true → IsAdmitted known (tape_of run) event
   open_admits event may = admitted_by_kept setup run kept pending s leads known event (are_held event) may
@@ -159,16 +160,16 @@ module _ (setup : Setup) (partial text : List ℕ) (kept : View) (run : List Mov
   module _ (known : Known) (same : known.setup ≡ setup) (knows : AreKnown known (conducts run)) where
     module _ (event : Event) where
       admits_in : (p : Phase) → IsIn p setup partial kept text run → (is_open p && admits_kept kept event) ≡ true → IsAdmitted known (tape_of run) event
-      admits_in phase.New o may = open_admits setup run kept (pending_in phase.New) o.state o.leads o.settled known same knows event may
-      admits_in phase.Preface o may = open_admits setup run kept (pending_in phase.Preface) o.state o.leads o.settled known same knows event may
-      admits_in phase.Frames o may = open_admits setup run kept (pending_in phase.Frames) o.state o.leads o.settled known same knows event may
+      admits_in phase.New o may = open_admits setup run kept (pending_in setup.more_room phase.New) o.state o.leads o.settled known same knows event may
+      admits_in phase.Preface o may = open_admits setup run kept (pending_in setup.more_room phase.Preface) o.state o.leads o.settled known same knows event may
+      admits_in phase.Frames o may = open_admits setup run kept (pending_in setup.more_room phase.Frames) o.state o.leads o.settled known same knows event may
       admits_in phase.Closed o may = absurd (let no : false ≡ true = may in cc)
       admits_in phase.Dead o may = absurd o
 
       in_admits : (p : Phase) → IsIn p setup partial kept text run → IsAdmitted known (tape_of run) event → (is_open p && admits_kept kept event) ≡ true
-      in_admits phase.New o may = admits_open setup run kept (pending_in phase.New) o.state o.leads o.settled known same knows event may
-      in_admits phase.Preface o may = admits_open setup run kept (pending_in phase.Preface) o.state o.leads o.settled known same knows event may
-      in_admits phase.Frames o may = admits_open setup run kept (pending_in phase.Frames) o.state o.leads o.settled known same knows event may
+      in_admits phase.New o may = admits_open setup run kept (pending_in setup.more_room phase.New) o.state o.leads o.settled known same knows event may
+      in_admits phase.Preface o may = admits_open setup run kept (pending_in setup.more_room phase.Preface) o.state o.leads o.settled known same knows event may
+      in_admits phase.Frames o may = admits_open setup run kept (pending_in setup.more_room phase.Frames) o.state o.leads o.settled known same knows event may
       in_admits phase.Closed o may = absurd (let no : true ≡ false = sym o.closed ∙ is_not (is_closed (tape_of run)) (and_parts (not (is_closed (tape_of run))) (admission.is_in_order (tape_of run) event) may.in_order).0 in cc)
         where
           is_not : (b : Bool) → not b ≡ true → b ≡ false
@@ -177,9 +178,9 @@ module _ (setup : Setup) (partial text : List ℕ) (kept : View) (run : List Mov
       in_admits phase.Dead o may = absurd o
 
     room_in : (p : Phase) → IsIn p setup partial kept text run → (k : ℕ) → TellsRoom known (tape_of run) k (if is_open p then room_on kept k else 0)
-    room_in phase.New o k = open_room setup run kept (pending_in phase.New) o.state o.leads o.settled known same knows k
-    room_in phase.Preface o k = open_room setup run kept (pending_in phase.Preface) o.state o.leads o.settled known same knows k
-    room_in phase.Frames o k = open_room setup run kept (pending_in phase.Frames) o.state o.leads o.settled known same knows k
+    room_in phase.New o k = open_room setup run kept (pending_in setup.more_room phase.New) o.state o.leads o.settled known same knows k
+    room_in phase.Preface o k = open_room setup run kept (pending_in setup.more_room phase.Preface) o.state o.leads o.settled known same knows k
+    room_in phase.Frames o k = open_room setup run kept (pending_in setup.more_room phase.Frames) o.state o.leads o.settled known same knows k
     room_in phase.Closed o k = record { opened = λ e. absurd (let no : false ≡ true = over_up k o ∙ e in cc); shut = λ e. refl }
     room_in phase.Dead o k = absurd o
 

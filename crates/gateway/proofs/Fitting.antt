@@ -2,7 +2,7 @@
 use Rattle.std.proofs.Common.{◌≡◌, ℕ, ◌-◌, ◌≤◌, List, [], ◌∷◌, ◌++◌, length, refl, sym, ap, subst, inl, inr, arith}
 use Rattle.std.specs.Prelude.{◌⊎◌}
 use Rattle.model.specs.Logs.{Event}
-use Rattle.model.specs.Logs.Event.{Client, ClientEnd, ClientTook, Up, UpEnd, UpFailed, UpTook}
+use Rattle.model.specs.Logs.Event.{Client, ClientEnd, ClientTook, Up, UpEnd, UpFailed, UpTook, Drain}
 use Rattle.model.specs.Setup.{Passing}
 use Rattle.model.specs.Setup.Passing.{Whole, Streaming}
 use Rattle.model.specs.Tapes.{Noted, Entry, acts, sent, ActsFollow}
@@ -82,6 +82,7 @@ fits_sent known t noted (ClientTook count) fits = tt
 fits_sent known t noted (UpEnd k) fits = tt
 fits_sent known t noted (UpFailed k) fits = tt
 fits_sent known t noted (UpTook k count) fits = tt
+fits_sent known t noted Drain fits = tt
 
 -- so there is behind frames alone
 fits_behind : (known : Known) (a t : List Entry) (event : Event) → inputs_in a ≡ [] → acts a ≡ [] → FitsRoom known t event → FitsRoom known (a ++ t) event

@@ -2,7 +2,7 @@
 use Rattle.std.proofs.Common.{◌≡◌, ℕ, true, false, Bool, List, [], ◌∷◌, ◌++◌, reverse, map, refl, sym, ◌∙◌, ap, subst, append-nil, if◌then◌else◌, Option, Some, None, inl, inr}
 use Rattle.std.specs.Prelude.{◌⊎◌, OnOk, Result, Ok, Err}
 use Rattle.model.specs.Logs.{Event, Output, Step, client_in, client_octets}
-use Rattle.model.specs.Logs.Event.{Client, ClientEnd, ClientTook, Up, UpEnd, UpFailed, UpTook}
+use Rattle.model.specs.Logs.Event.{Client, ClientEnd, ClientTook, Up, UpEnd, UpFailed, UpTook, Drain}
 use Rattle.model.specs.Octets.{IsStrictFront}
 use Rattle.model.specs.Frames.{preface, settings_frame}
 use Rattle.model.specs.Setup.{Setup}
@@ -44,20 +44,20 @@ open_in phase.Closed setup partial kept text run e o = absurd (let no : false �
 open_in phase.Dead setup partial kept text run e o = absurd o
 
 -- once the gateway's settings are sent, nothing is owed
-nothing_owed : (p : Phase) → pending_in (greeted p) ≡ balanced
-nothing_owed phase.New = refl
-nothing_owed phase.Preface = refl
-nothing_owed phase.Frames = refl
-nothing_owed phase.Closed = refl
-nothing_owed phase.Dead = refl
+nothing_owed : (more : ℕ) (p : Phase) → pending_in more (greeted p) ≡ balanced
+nothing_owed more phase.New = refl
+nothing_owed more phase.Preface = refl
+nothing_owed more phase.Frames = refl
+nothing_owed more phase.Closed = refl
+nothing_owed more phase.Dead = refl
 
 -- where nothing is owed, something came
-not_fresh : (p : Phase) (kept : View) → pending_in p ≡ balanced → IsFresh p kept
-not_fresh phase.New kept paid = absurd (let both : settings_frame ∷ [] ≡ [] = ap (λ (p : Pending). p.owed) paid in cc)
-not_fresh phase.Preface kept paid = tt
-not_fresh phase.Frames kept paid = tt
-not_fresh phase.Closed kept paid = tt
-not_fresh phase.Dead kept paid = tt
+not_fresh : (more : ℕ) (p : Phase) (kept : View) → pending_in more p ≡ balanced → IsFresh p kept
+not_fresh more phase.New kept paid = absurd (let both : settings_frame more ∷ [] ≡ [] = ap (λ (p : Pending). p.owed) paid in cc)
+not_fresh more phase.Preface kept paid = tt
+not_fresh more phase.Frames kept paid = tt
+not_fresh more phase.Closed kept paid = tt
+not_fresh more phase.Dead kept paid = tt
 
 -- before the preface was read, and behind it
 unbegun_in : (p : Phase) (partial text : List ℕ) (t : List Entry) → is_begun (greeted p) ≡ false → IsReadIn p partial text t → IsUnbegun partial text t
@@ -93,7 +93,7 @@ step_of event q = record { event = event; outputs = reverse q }
 
 module _ (setup : Setup) (old : Standing) (log : List Step) (run : List Move) (stands : Stands setup old log run) (event : Event) (admitted : MayCome setup run event) (inputs : List Input) (q : List Output) (events : events_in inputs ≡ listed event) (alone : (inputs ≡ OfEvent event ∷ []) ⊎ (events_in inputs ≡ [])) where
   -- the connection goes on
-  pub goes_to : (new : Standing) → Serves setup new → is_open new.phase ≡ true → pending_in new.phase ≡ balanced → IsSettled new.kept → (c : Comes setup run [] inputs balanced (Some new.kept) q)
+  pub goes_to : (new : Standing) → Serves setup new → is_open new.phase ≡ true → pending_in setup.more_room new.phase ≡ balanced → IsSettled new.kept → (c : Comes setup run [] inputs balanced (Some new.kept) q)
       → IsRead (client_in (step_of event q ∷ log)) (tape_of (c.moves ++ run)) → IsReadIn new.phase new.partial (client_in (step_of event q ∷ log)) (tape_of (c.moves ++ run)) → breaches (tape_of (c.moves ++ run)) ≡ [] → StandsNext setup new log run event (reverse q)
   goes_to new serves goes paid settled c read octets unbroken = record {
     segment = c.moves;
@@ -102,7 +102,7 @@ module _ (setup : Setup) (old : Standing) (log : List Step) (run : List Move) (s
       serves = serves;
       answered = answered_more setup log run stands.answered event inputs (Some new.kept) q admitted events c (rests_behind setup log run stands.answered (c.moves ++ run) (Some new.kept) c.stands (λ kept is. subst IsSettled (some_same is) settled)) read;
       fits = fits_more setup log run stands.answered event inputs (Some new.kept) q stands.fits admitted alone c;
-      is_in = into new.phase goes (record { state = c.stands.0; leads = subst (λ p. Leads setup (c.moves ++ run) new.kept p c.stands.0) (sym paid) c.stands.1; settled = settled; octets = octets; unbroken = unbroken; fresh = not_fresh new.phase new.kept paid });
+      is_in = into new.phase goes (record { state = c.stands.0; leads = subst (λ p. Leads setup (c.moves ++ run) new.kept p c.stands.0) (sym paid) c.stands.1; settled = settled; octets = octets; unbroken = unbroken; fresh = not_fresh setup.more_room new.phase new.kept paid });
     };
   }
     where
@@ -139,6 +139,7 @@ no_octets (Up k piece) e = refl
 no_octets (UpEnd k) e = refl
 no_octets (UpFailed k) e = refl
 no_octets (UpTook k count) e = refl
+no_octets Drain e = refl
 
 -- it goes on being open
 stays_open : (p : Phase) → is_open p ≡ true → is_open (greeted p) ≡ true
@@ -168,15 +169,15 @@ module _ (setup : Setup) (old mid : Standing) (p : List Output) (log : List Step
   mid_open : is_open mid.phase ≡ true
   mid_open = ap is_open phase_is ∙ stays_open old.phase is_open_yet
 
-  mid_paid : pending_in mid.phase ≡ balanced
-  mid_paid = ap pending_in phase_is ∙ nothing_owed old.phase
+  mid_paid : pending_in setup.more_room mid.phase ≡ balanced
+  mid_paid = ap (pending_in setup.more_room) phase_is ∙ nothing_owed setup.more_room old.phase
 
   -- behind the settings moves led to what is kept
   pub mid_leads : (moves : List Move) × (s : State) × Leads setup moves mid.kept balanced s
   mid_leads = let one = greets.performs setup run o.state o.leads in (one.segment.moves ++ run, one.segment.state, one.segment.leads)
 
   from_greeting : (inputs : List Input) (now : Option View) (q : List Output) → ComesFrom setup mid.kept balanced p inputs balanced now q → Comes setup run [] inputs balanced now q
-  from_greeting inputs now q later = greets_then setup old.kept mid.kept (pending_in old.phase) balanced balanced p q inputs now (greets.performs setup) greets.only later run o.state o.leads
+  from_greeting inputs now q later = greets_then setup old.kept mid.kept (pending_in setup.more_room old.phase) balanced balanced p q inputs now (greets.performs setup) greets.only later run o.state o.leads
 
   module _ (event : Event) (admitted : MayCome setup run event) (hap : Standing) (q : List Output) (terms : KeepsTerms mid hap) where
     serves_hap : Serves setup hap
@@ -227,7 +228,7 @@ module _ (setup : Setup) (old mid : Standing) (p : List Output) (log : List Step
 
       hears_goes : IsSettled hap.kept → Comes setup run [] (OfEvent event ∷ []) balanced (Some hap.kept) q → StandsNext setup hap log run event (reverse q)
       hears_goes settled c =
-          goes_to setup old log run stands event admitted (OfEvent event ∷ []) q (sym others) (inl refl) hap serves_hap (ap is_open hap_phase ∙ stays_open old.phase is_open_yet) (ap pending_in hap_phase ∙ nothing_owed old.phase) settled c
+          goes_to setup old log run stands event admitted (OfEvent event ∷ []) q (sym others) (inl refl) hap serves_hap (ap is_open hap_phase ∙ stays_open old.phase is_open_yet) (ap (pending_in setup.more_room) hap_phase ∙ nothing_owed setup.more_room old.phase) settled c
           (event_read (Some hap.kept) c) (event_kept (Some hap.kept) c) (event_unbroken (Some hap.kept) c)
 
       hears_over : Comes setup run [] (OfEvent event ∷ []) balanced None q → StandsNext setup (record hap { phase = phase.Closed }) log run event (reverse q)
@@ -268,7 +269,7 @@ module _ (setup : Setup) (old mid : Standing) (p : List Output) (log : List Step
       let partial_of : hap.partial ≡ old.partial ++ piece = ap (λ (g : Standing). g.partial) w.after ∙ unread_is in
       let kept = waits_kept old.partial (client_in log) piece (tape_of run) (tape_of c.moves) u before.unbroken front c.came in
       goes_to setup old log run stands (Client piece) admitted [] q refl (inr refl) hap serves_behind
-      (ap is_open phase_of ∙ mid_open setup old mid p log run stands greets is_open_yet) (ap pending_in phase_of ∙ mid_paid setup old mid p log run stands greets is_open_yet) settled c
+      (ap is_open phase_of ∙ mid_open setup old mid p log run stands greets is_open_yet) (ap (pending_in setup.more_room) phase_of ∙ mid_paid setup old mid p log run stands greets is_open_yet) settled c
       (subst (λ t. IsRead (client_in log ++ piece) t) (sym tape) (waits_read old.partial (client_in log) piece (tape_of run) (tape_of c.moves) u before.unbroken front c.came))
       (subst (λ t. IsReadIn hap.phase hap.partial (client_in log ++ piece) t) (sym tape) (subst (λ x. IsReadIn hap.phase x (client_in log ++ piece) (tape_of c.moves ++ tape_of run)) (sym partial_of) (into_unbegun hap.phase (ap is_begun phase_of ∙ w.unbegun) (old.partial ++ piece) (client_in log ++ piece) (tape_of c.moves ++ tape_of run) kept)))
       (ap breaches tape ∙ waits_unbroken old.partial (client_in log) piece (tape_of run) (tape_of c.moves) u before.unbroken front c.came)
@@ -319,7 +320,7 @@ module _ (setup : Setup) (old mid : Standing) (p : List Output) (log : List Step
       let phase_of : hap.phase ≡ phase.Frames = ap (λ (x : Standing). x.phase) r.keeps in
       let partial_of : hap.partial ≡ r.rest = ap (λ (x : Standing). x.partial) r.keeps in
       goes_to setup old log run stands (Client piece) admitted (came_in g.behind g.begins r.rest (Some hap.kept) t) q (no_event g.behind g.begins r.rest (Some hap.kept) t) (inr (no_event g.behind g.begins r.rest (Some hap.kept) t)) hap serves_behind
-      (ap is_open phase_of) (ap pending_in phase_of) settled c
+      (ap is_open phase_of) (ap (pending_in setup.more_room) phase_of) settled c
       (read_by g.behind g.begins r.rest (Some hap.kept) t (λ e. t.leaves))
       (subst (λ ph. IsReadIn ph hap.partial (client_in log ++ piece) (tape_of (c.moves ++ run))) (sym phase_of) (subst (λ x. IsBehind x (client_in log ++ piece) (tape_of (c.moves ++ run))) (sym partial_of) (subst (λ x. IsBehind r.rest (client_in log ++ piece) x) (sym tape) (on.kept t.leaves))))
       (ap breaches tape ∙ goes_unbroken (client_in log) piece (tape_of run) (tape_of c.moves) before.unbroken t.frames t.last r.rest t.broken c.came t.leaves)
@@ -347,3 +348,4 @@ stands_next setup old mid p log run stands greets goes (Up k piece) admitted hap
 stands_next setup old mid p log run stands greets goes (UpEnd k) admitted hap q terms went settled h = hears_next setup old mid p log run stands greets goes (UpEnd k) admitted hap q terms went settled refl h
 stands_next setup old mid p log run stands greets goes (UpFailed k) admitted hap q terms went settled h = hears_next setup old mid p log run stands greets goes (UpFailed k) admitted hap q terms went settled refl h
 stands_next setup old mid p log run stands greets goes (UpTook k count) admitted hap q terms went settled h = hears_next setup old mid p log run stands greets goes (UpTook k count) admitted hap q terms went settled refl h
+stands_next setup old mid p log run stands greets goes Drain admitted hap q terms went settled h = hears_next setup old mid p log run stands greets goes Drain admitted hap q terms went settled refl h

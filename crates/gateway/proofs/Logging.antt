@@ -137,9 +137,9 @@ tables_kept setup run kept pending s leads = (
 
 -- the state by the rule is the one that is kept, while the connection is open
 kept_in : (p : Phase) (setup : Setup) (partial : List ℕ) (kept : View) (text : List ℕ) (run : List Move) → IsIn p setup partial kept text run → is_open p ≡ true → ((state_of setup run).tables.encoding.table ≡ kept.encoding.table) × ((state_of setup run).tables.decoding ≡ kept.inbound.table)
-kept_in phase.New setup partial kept text run o open_yet = tables_kept setup run kept (pending_in phase.New) o.state o.leads
-kept_in phase.Preface setup partial kept text run o open_yet = tables_kept setup run kept (pending_in phase.Preface) o.state o.leads
-kept_in phase.Frames setup partial kept text run o open_yet = tables_kept setup run kept (pending_in phase.Frames) o.state o.leads
+kept_in phase.New setup partial kept text run o open_yet = tables_kept setup run kept (pending_in setup.more_room phase.New) o.state o.leads
+kept_in phase.Preface setup partial kept text run o open_yet = tables_kept setup run kept (pending_in setup.more_room phase.Preface) o.state o.leads
+kept_in phase.Frames setup partial kept text run o open_yet = tables_kept setup run kept (pending_in setup.more_room phase.Frames) o.state o.leads
 kept_in phase.Closed setup partial kept text run o open_yet = absurd (let no : false ≡ true = open_yet in cc)
 kept_in phase.Dead setup partial kept text run o open_yet = absurd o
 

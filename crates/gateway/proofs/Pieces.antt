@@ -1,16 +1,15 @@
 -- What a piece of the client's octets comes to, and that the gateway's settings go out once.
-use Rattle.std.proofs.Common.{◌≡◌, false, ℕ, List, [], ◌∷◌, ◌++◌, ◌-◌, ◌+◌, ◌≤◌, length, take, drop, refl, sym, ◌∙◌, ap, subst, inl, inr, arith, Option, Some, None}
+use Rattle.std.proofs.Common.{◌≡◌, Bool, true, false, ◌==◌, ℕ, List, [], ◌∷◌, ◌++◌, ◌-◌, ◌≤◌, length, take, drop, refl, sym, ◌∙◌, ap, subst, inl, inr, arith, Option, Some, None}
 use Rattle.model.specs.Logs.{Event, Output}
-use Rattle.model.specs.Logs.Event.{Client, ClientEnd, ClientTook, Up, UpEnd, UpFailed, UpTook}
+use Rattle.model.specs.Logs.Event.{Client, ClientEnd, ClientTook, Up, UpEnd, UpFailed, UpTook, Drain}
 use Rattle.model.specs.Setup.{Setup}
-use Rattle.model.specs.Tapes.{listed, put}
-use Rattle.model.specs.Logs.Output.{ToClient}
-use Rattle.model.specs.Frames.{Frame, spell, settings_frame}
-use Rattle.theory_requests.specs.State.Due.{Nothing}
-use Rattle.refinement.specs.View.{View, Pending, balanced}
+use Rattle.model.specs.Tapes.{listed}
+use Rattle.model.specs.Frames.{Frame}
+use Rattle.refinement.specs.View.{View, balanced, first_pending}
 use Rattle.refinement.proofs.Bringing.{own_none}
 use Rattle.refinement.specs.Bringing.{PerformsOwn}
 use Rattle.event_handlers.specs.Inputs.Input.{OfEvent}
+use Rattle.event_handlers.specs.paying.Greeting.{more_in, greeting, greeting_by, behind_greeting, behind_greeting_by}
 use Rattle.event_handlers.specs.Comings.{ComesFrom, OnlyToClient}
 use Rattle.event_handlers.specs.Resting.{IsSettled, IsPassedBy, IsServed, now_of}
 use Rattle.event_handlers.specs.declared.taking.ServiceTerms.{ServiceTerms}
@@ -35,43 +34,64 @@ greeted_before phase.Frames not_new = refl
 greeted_before phase.Closed not_new = refl
 greeted_before phase.Dead not_new = refl
 
-none_pending : (p : Phase) → (p ≡ phase.New → ⊥) → pending_in p ≡ balanced
-none_pending phase.New not_new = absurd (not_new refl)
-none_pending phase.Preface not_new = refl
-none_pending phase.Frames not_new = refl
-none_pending phase.Closed not_new = refl
-none_pending phase.Dead not_new = refl
+none_pending : (more : ℕ) (p : Phase) → (p ≡ phase.New → ⊥) → pending_in more p ≡ balanced
+none_pending more phase.New not_new = absurd (not_new refl)
+none_pending more phase.Preface not_new = refl
+none_pending more phase.Frames not_new = refl
+none_pending more phase.Closed not_new = refl
+none_pending more phase.Dead not_new = refl
 
 pub greets_none : (g : Standing) → (g.phase ≡ phase.New → ⊥) → IsSettled g.kept → Greets g g []
 greets_none g not_new settled = record {
-  performs = λ setup. subst (λ pending. PerformsOwn setup g.kept pending [] g.kept balanced []) (sym (none_pending g.phase not_new)) (own_none setup g.kept balanced []);
+  performs = λ setup. subst (λ pending. PerformsOwn setup g.kept pending [] g.kept balanced []) (sym (none_pending setup.more_room g.phase not_new)) (own_none setup g.kept balanced []);
   only = tt;
   after = ap (λ p. record g { phase = p }) (sym (greeted_before g.phase not_new));
   more = omega arith;
   settled = settled;
 }
 
+-- what is put out first goes to the client
+only_greeting : (b : Bool) (more : ℕ) → OnlyToClient (greeting_by b more [])
+only_greeting true more = tt
+only_greeting false more = tt
+
+-- and what is kept then is as before, but for the connection's receiving window, and for how much is untaken
+as_behind : (b : Bool) (more : ℕ) (kept : View) → behind_greeting_by b more kept ≡ record kept { inbound = record kept.inbound { room = (behind_greeting_by b more kept).inbound.room }; untaken = (behind_greeting_by b more kept).untaken }
+as_behind true more kept = refl
+as_behind false more kept = refl
+
+more_behind : (b : Bool) (more : ℕ) (kept : View) → kept.untaken ≤ (behind_greeting_by b more kept).untaken
+more_behind true more kept = omega arith
+more_behind false more kept = omega arith
+
+settled_behind : (b : Bool) (more : ℕ) (kept : View) → IsSettled kept → IsSettled (behind_greeting_by b more kept)
+settled_behind true more kept settled = record {
+  rest = record { goes_on = settled.rest.goes_on; none_cut = settled.rest.none_cut; none_done = settled.rest.none_done; flushed = λ few. settled.rest.flushed (omega (arith, few)) };
+  numbered = settled.numbered;
+}
+settled_behind false more kept settled = record {
+  rest = record { goes_on = settled.rest.goes_on; none_cut = settled.rest.none_cut; none_done = settled.rest.none_done; flushed = λ few. settled.rest.flushed (omega (arith, few)) };
+  numbered = settled.numbered;
+}
+
 -- they go out where nothing came yet
 pub greets_first : (g : Standing) (kept : View) (out p : List Output) → g.phase ≡ phase.New → IsSettled g.kept → out ≡ []
-    → ((setup : Setup) (rest : List Frame) (pending : Pending) → pending.owed ≡ settings_frame ∷ rest → pending.due ≡ Nothing → PerformsOwn setup g.kept pending out kept (record pending { owed = rest }) p)
-    → p ≡ put out (ToClient (spell settings_frame)) → kept ≡ record g.kept { untaken = g.kept.untaken + length (spell settings_frame) } → Greets g (record g { phase = phase.Preface; kept = kept }) p
+    → ((setup : Setup) → PerformsOwn setup g.kept (first_pending setup.more_room) out kept balanced p)
+    → p ≡ greeting (more_in g.kept) out → kept ≡ behind_greeting (more_in g.kept) g.kept → Greets g (record g { phase = phase.Preface; kept = kept }) p
 greets_first g kept out p new settled nothing performs puts counts = record {
   performs = λ setup.
-      subst (λ x. PerformsOwn setup g.kept (pending_in x) [] kept balanced p) (sym new)
-      (subst (λ (os : List Output). PerformsOwn setup g.kept (record balanced { owed = settings_frame ∷ [] }) os kept balanced p) nothing (performs setup [] (record balanced { owed = settings_frame ∷ [] }) refl refl));
-  only = subst OnlyToClient (sym (puts ∙ ap (λ (os : List Output). put os (ToClient (spell settings_frame))) nothing)) tt;
+      subst (λ x. PerformsOwn setup g.kept (pending_in setup.more_room x) [] kept balanced p) (sym new)
+      (subst (λ (os : List Output). PerformsOwn setup g.kept (first_pending setup.more_room) os kept balanced p) nothing (performs setup));
+  only = subst OnlyToClient (sym (puts ∙ ap (greeting (more_in g.kept)) nothing)) (only_greeting (more_in g.kept == 0) (more_in g.kept));
   after =
       ap (λ x. record g { phase = greeted x; kept = kept }) (sym new)
-      ∙ ap (λ (k : View). record g { phase = greeted g.phase; kept = k }) (counts ∙ ap (λ n. record g.kept { untaken = n }) (sym (ap (λ (k : View). k.untaken) counts)));
-  more = less;
-  settled = subst IsSettled (sym counts) (record {
-    rest = record { goes_on = settled.rest.goes_on; none_cut = settled.rest.none_cut; none_done = settled.rest.none_done; flushed = λ few. settled.rest.flushed (omega (arith, few)) };
-    numbered = settled.numbered;
-  });
+      ∙ ap (λ (k : View). record g { phase = greeted g.phase; kept = k }) kept_as;
+  more = subst (λ (k : View). g.kept.untaken ≤ k.untaken) (sym counts) (more_behind (more_in g.kept == 0) (more_in g.kept) g.kept);
+  settled = subst IsSettled (sym counts) (settled_behind (more_in g.kept == 0) (more_in g.kept) g.kept settled);
 }
   where
-    less : g.kept.untaken ≤ kept.untaken
-    less = let is : kept.untaken ≡ g.kept.untaken + length (spell settings_frame) = ap (λ (k : View). k.untaken) counts in omega (arith, is)
+    kept_as : kept ≡ record g.kept { inbound = record g.kept.inbound { room = kept.inbound.room }; untaken = kept.untaken }
+    kept_as = subst (λ (k : View). k ≡ record g.kept { inbound = record g.kept.inbound { room = k.inbound.room }; untaken = k.untaken }) (sym counts) (as_behind (more_in g.kept == 0) (more_in g.kept) g.kept)
 
 -- ---- other events
 
@@ -88,6 +108,7 @@ hears_by old kept went o p event told same others comes = subst (Happens old (re
     by (UpEnd k) others comes = record { comes = comes; stays = refl }
     by (UpFailed k) others comes = record { comes = comes; stays = refl }
     by (UpTook k count) others comes = record { comes = comes; stays = refl }
+    by Drain others comes = record { comes = comes; stays = refl }
 
 -- ---- what is read
 

@@ -9,7 +9,7 @@ use Rattle.model.specs.Admission as admission
 use Rattle.model.specs.Known.{Known}
 use Rattle.model.specs.Frames.{spell}
 use Rattle.model.specs.Logs.{Event, Output, Step, client_in}
-use Rattle.model.specs.Logs.Event.{Client, ClientEnd, ClientTook, Up, UpEnd, UpFailed, UpTook}
+use Rattle.model.specs.Logs.Event.{Client, ClientEnd, ClientTook, Up, UpEnd, UpFailed, UpTook, Drain}
 use Rattle.model.specs.Logs.Output.{ToClient, Does}
 use Rattle.model.specs.Logs.Act.{Open, ToUp, Close, CloseClient}
 use Rattle.model.specs.Rooms.{IsRoom}
@@ -129,8 +129,8 @@ module _ (setup : Setup) (g : Standing) (log : List Step) (run : List Move) (sta
   room_found : (k : ℕ) (c : Connection) → find number_of k g.kept.upstreams.live ≡ Some c → HasRoom c
   room_found k c found =
       let number : c.live.k ≡ k = found_key number_of k g.kept.upstreams.live c found in
-      let opened : admission.is_open k (tape_of run) ≡ true = sym (up_by_tape setup run g.kept (pending_in g.phase) o.state o.leads k) ∙ ap is_some found in
-      let told = (open_room setup run g.kept (pending_in g.phase) o.state o.leads o.settled known refl (known_so setup (conducts run)) k).opened opened in
+      let opened : admission.is_open k (tape_of run) ≡ true = sym (up_by_tape setup run g.kept (pending_in setup.more_room g.phase) o.state o.leads k) ∙ ap is_some found in
+      let told = (open_room setup run g.kept (pending_in setup.more_room g.phase) o.state o.leads o.settled known refl (known_so setup (conducts run)) k).opened opened in
       subst (λ n. IsRoom known.setup.passing known n (tape_of run) (room_of g.kept.offers (Some c))) (sym number)
       (subst (IsRoom known.setup.passing known k (tape_of run)) (ap (room_of g.kept.offers) found) told)
 
@@ -152,7 +152,7 @@ module _ (setup : Setup) (g : Standing) (log : List Step) (run : List Move) (sta
     rise = subst Rise (sym (numbers_told g.kept.offers cs)) (rising_rise cs rising);
     listed = λ k.
         ap (is_among k) (numbers_told g.kept.offers cs)
-        ∙ sym (ap (λ l. is_among k (numbers l)) (reverse-reverse cs)) ∙ sym (among_found k (reverse cs)) ∙ ap (λ l. is_some (find number_of k l)) is ∙ up_by_tape setup run g.kept (pending_in g.phase) o.state o.leads k;
+        ∙ sym (ap (λ l. is_among k (numbers l)) (reverse-reverse cs)) ∙ sym (among_found k (reverse cs)) ∙ ap (λ l. is_some (find number_of k l)) is ∙ up_by_tape setup run g.kept (pending_in setup.more_room g.phase) o.state o.leads k;
     each = told_each cs (all_turned HasRoom cs (subst (AllByRecursion HasRoom) (sym is) all_rooms));
   }
 
@@ -212,6 +212,7 @@ no_fault (Up j piece) calm = refl
 no_fault (UpEnd j) calm = refl
 no_fault (UpFailed j) calm = absurd (let no : true ≡ false = calm in cc)
 no_fault (UpTook j count) calm = refl
+no_fault Drain calm = refl
 
 stays_open : (segment t : List Entry) → list_any turns (outputs segment) ≡ false → list_any fails (happened segment) ≡ false → (k : ℕ) → admission.is_open k (segment ++ t) ≡ admission.is_open k t
 stays_open [] t still calm k = refl
@@ -229,6 +230,7 @@ stays_open (Happened (Up j piece) ∷ segment) t still calm k = stays_open segme
 stays_open (Happened (UpEnd j) ∷ segment) t still calm k = stays_open segment t still calm k
 stays_open (Happened (UpFailed j) ∷ segment) t still calm k = absurd (let no : true ≡ false = calm in cc)
 stays_open (Happened (UpTook j count) ∷ segment) t still calm k = stays_open segment t still calm k
+stays_open (Happened Drain ∷ segment) t still calm k = stays_open segment t still calm k
 
 -- each of these rooms is still the one that is told
 same_rooms : (known known' : Known) (t t' : List Entry) → ((k : ℕ) → admission.is_open k t' ≡ admission.is_open k t) → (rooms : List (ℕ × ℕ))

@@ -1,19 +1,16 @@
 -- What a gateway holds between steps is bounded.
-use Rattle.std.proofs.Common.{◌≡◌, ℕ, ◌<◌, ◌≤◌, ◌^◌, true, false, List, [], ◌∷◌, ◌++◌, length, length-append, refl, sym, ◌∙◌, ap, subst, arith}
+use Rattle.std.proofs.Common.{◌≡◌, ℕ, ◌<◌, ◌≤◌, ◌^◌, true, false, List, [], ◌∷◌, ◌++◌, length, length-append, refl, sym, ◌∙◌, ap, subst, arith, None}
 use Rattle.model.specs.Frames.{preface, settings_frame}
 use Rattle.model.specs.Logs.{Step, client_in}
 use Rattle.model.specs.Octets.{IsStrictFront}
-use Rattle.model.specs.Setup.{Setup}
+use Rattle.model.specs.Setup.{Setup, own_window}
 use Rattle.model.specs.Known.{Known}
-use Rattle.theory_errors.specs.Book.{Book, first_ledger}
 use Rattle.theory_errors.specs.Rule.{AreKnown, known_of}
 use Rattle.theory_errors.proofs.Knowing.{known_so}
 use Rattle.theory_responses.specs.State as theory_responses
 use Rattle.upstream_connections.specs.Kept.{nothing}
 use Rattle.header_blocks.specs.Encoding.{first_encoding}
 use Rattle.model.specs.Tables.{first_table, total_size}
-use Rattle.model.specs.Limits.{first_window}
-use Rattle.connection_state.specs.Inbound.{book_of}
 use Rattle.theory_receive_windows.specs.Marks.{total}
 use Rattle.window_credit.specs.Sides.{Side, queue_of}
 use Rattle.theory.specs.Moves.{Move}
@@ -30,21 +27,19 @@ use Rattle.gateway.specs.Held.{held_in as held}
 
 -- ---- a session in which nothing is kept
 
-nothing_waits : (kept : View) → kept.marks ≡ [] → (stream : ℕ) → waiting_for stream kept ≤ first_window
-nothing_waits kept none stream =
+nothing_waits : (setup : Setup) (kept : View) → kept.marks ≡ [] → (stream : ℕ) → waiting_for stream kept ≤ own_window setup
+nothing_waits setup kept none stream =
     let nothing : waiting_for stream kept ≡ 0 = ap (λ (sides : List Side). total (queue_of stream sides)) none in
     omega (arith, nothing)
 
-pub none_small : (setup : Setup) (kept : View) → book_of (record { given = []; untaken = 0 }) kept.inbound ≡ (first_ledger setup).book → kept.offers ≡ theory_responses.start → kept.upstreams ≡ nothing → kept.marks ≡ [] → kept.inbound.table ≡ first_table → kept.encoding ≡ first_encoding false → IsSmall setup kept
+pub none_small : (setup : Setup) (kept : View) → kept.inbound.block ≡ None → kept.offers ≡ theory_responses.start → kept.upstreams ≡ nothing → kept.marks ≡ [] → kept.inbound.table ≡ first_table → kept.encoding ≡ first_encoding false → IsSmall setup kept
 unfolding total_size
-none_small setup kept book offers upstreams marks table encoding =
-    let block = ap (λ (b : Book). b.block) book in
-    rw (offers, upstreams, table, encoding, block) (record { beside = omega arith; few_boxes = omega arith; few_requests = omega arith; few_connections = omega arith; each = λ stream. omega arith; all = omega arith; few_waiting = nothing_waits kept marks })
+none_small setup kept block offers upstreams marks table encoding =
+    rw (offers, upstreams, table, encoding, block) (record { beside = omega arith; few_boxes = omega arith; few_requests = omega arith; few_connections = omega arith; each = λ stream. omega arith; all = omega arith; few_waiting = nothing_waits setup kept marks })
 
-pub none_held : (setup : Setup) (kept : View) → book_of (record { given = []; untaken = 0 }) kept.inbound ≡ (first_ledger setup).book → kept.offers ≡ theory_responses.start → kept.upstreams ≡ nothing → kept.inbound.table ≡ first_table → kept.encoding ≡ first_encoding false → held_in kept ≡ 0
+pub none_held : (kept : View) → kept.inbound.block ≡ None → kept.offers ≡ theory_responses.start → kept.upstreams ≡ nothing → kept.inbound.table ≡ first_table → kept.encoding ≡ first_encoding false → held_in kept ≡ 0
 unfolding total_size
-none_held setup kept book offers upstreams table encoding =
-    let block = ap (λ (b : Book). b.block) book in
+none_held kept block offers upstreams table encoding =
     rw (offers, upstreams, table, encoding, block) (omega arith)
 
 -- ---- the octets that aren't a whole frame
@@ -94,7 +89,7 @@ module _ (setup : Setup) (g : Standing) (step : Step) (log : List Step) (run : L
 
   open_small : (p : Phase) → g.phase ≡ p → is_open p ≡ true → IsSmall setup g.kept
   open_small phase.New is on = absurd (let o : IsOpen setup phase.New g.partial g.kept (client_in (step ∷ log)) run = subst (λ x. Rattle.gateway.specs.Stands.IsIn x setup g.partial g.kept (client_in (step ∷ log)) run) is stands.is_in in
-      let owed : settings_frame ∷ [] ≡ [] = sym o.leads.keeps.owed ∙ sym (ap (λ s. s.ledger.queue) o.leads.stands.is) ∙ rests.conduct.nothing in cc)
+      let owed : settings_frame setup.more_room ∷ [] ≡ [] = sym o.leads.keeps.owed ∙ sym (ap (λ s. s.ledger.queue) o.leads.stands.is) ∙ rests.conduct.nothing in cc)
   open_small phase.Preface is on =
       let o : IsOpen setup phase.Preface g.partial g.kept (client_in (step ∷ log)) run = subst (λ x. Rattle.gateway.specs.Stands.IsIn x setup g.partial g.kept (client_in (step ∷ log)) run) is stands.is_in in
       little_kept setup run g.kept o.state o.leads rests small_body (λ streaming. stands.fits known refl knows)

@@ -82,14 +82,15 @@ abbrev pub IsSettledIf : Onward → View → Type 0
 IsSettledIf answer.On kept = IsSettled kept
 IsSettledIf answer.Over kept = Unit {0}
 
--- The gateway's settings are sent where nothing came yet; all else stays, but for how many octets for the client aren't taken.
+-- The gateway's settings are sent where nothing came yet; all else stays, but for the connection's receiving window, and for how many octets
+-- for the client aren't taken.
 abbrev pub greeted : Phase → Phase
 greeted phase.New = phase.Preface
 greeted other = other
 
 pub record Greets (old new : Standing) (put_out : List Output) : Type 0 where
-  pub performs : (setup : Setup) → PerformsOwn setup old.kept (pending_in old.phase) [] new.kept balanced put_out
+  pub performs : (setup : Setup) → PerformsOwn setup old.kept (pending_in setup.more_room old.phase) [] new.kept balanced put_out
   pub only : OnlyToClient put_out
-  pub after : new ≡ record old { phase = greeted old.phase; kept = record old.kept { untaken = new.kept.untaken } }
+  pub after : new ≡ record old { phase = greeted old.phase; kept = record old.kept { inbound = record old.kept.inbound { room = new.kept.inbound.room }; untaken = new.kept.untaken } }
   pub more : old.kept.untaken ≤ new.kept.untaken
   pub settled : IsSettled new.kept

@@ -5,7 +5,7 @@ use Rattle.model.specs.Admission as admission
 use Rattle.model.specs.Idle.{IsIdle, AreIdle}
 use Rattle.model.specs.Known.{Known}
 use Rattle.model.specs.Logs.{Event, Output}
-use Rattle.model.specs.Logs.Event.{Client, ClientEnd, ClientTook, Up, UpEnd, UpFailed, UpTook}
+use Rattle.model.specs.Logs.Event.{Client, ClientEnd, ClientTook, Up, UpEnd, UpFailed, UpTook, Drain}
 use Rattle.model.specs.Logs.Output.{ToClient, Does}
 use Rattle.model.specs.Logs.Act.{Open, ToUp, Close, CloseClient}
 use Rattle.model.specs.Rooms.{IsRoom}
@@ -74,3 +74,4 @@ fails (ClientTook count) = false
 fails (Up k piece) = false
 fails (UpEnd k) = false
 fails (UpTook k count) = false
+fails Drain = false

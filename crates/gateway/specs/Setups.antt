@@ -1,5 +1,5 @@
 -- The configuration without where it lies in memory.
-use Rattle.std.specs.Prelude.{◌≤◌, length, map}
+use Rattle.std.specs.Prelude.{◌≤◌, ◌-◌, length, map}
 use Rattle.model.specs.Setup as setup
 use Rattle.model.specs.Setup.{Setup}
 use Rattle.gateway.specs.declared.config.Config.{Config}
@@ -29,10 +29,12 @@ setup_of config = record {
   max_response = config.max_response;
   keep = config.keep;
   most_idle = config.idle;
+  more_room = config.window - 65535;
 }
 
--- What a gateway can be set up with: maxima within their limits, and no more routes than have a number.
+-- What a gateway can be set up with: maxima within their limits, windows of at most 1,048,576 octets, and no more routes than have a number.
 pub record IsServable (setup : Setup) : Type 0 where
   pub body : setup.max_body ≤ 1073741824
   pub response : setup.max_response ≤ 1073741824
+  pub room : setup.more_room ≤ 983041
   pub few : length setup.routes ≤ 4294967295

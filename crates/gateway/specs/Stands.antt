@@ -1,7 +1,7 @@
 -- Where a gateway stands: for which log, and behind which moves by the rule.
 use Rattle.std.specs.Prelude.{◌≡◌, ℕ, Bool, true, false, ◌&&◌, if◌then◌else◌, List, [], ◌∷◌, ◌++◌, length}
 use Rattle.model.specs.Octets.{IsFront, IsStrictFront}
-use Rattle.model.specs.Frames.{Reading, preface, settings_frame}
+use Rattle.model.specs.Frames.{Reading, preface}
 use Rattle.model.specs.Logs.{Event, Output, Step, client_in}
 use Rattle.model.specs.Setup.{Setup, Route}
 use Rattle.model.specs.Known.{Known}
@@ -14,7 +14,7 @@ use Rattle.upstream_response.specs.declared.answer.ResponsePassing.{ResponsePass
 use Rattle.theory.specs.Moves.{Move}
 use Rattle.theory.specs.State.{State, conducts, tape_of}
 use Rattle.theory.specs.Steps.{AreAnsweredBy}
-use Rattle.refinement.specs.View.{View, Pending, balanced, Leads}
+use Rattle.refinement.specs.View.{View, Pending, balanced, first_pending, Leads}
 use Rattle.event_handlers.specs.Comings.{IsOver}
 use Rattle.event_handlers.specs.Resting.{IsSettled, IsPassedBy}
 use Rattle.event_handlers.specs.Admission as steps
@@ -82,10 +82,11 @@ opened_in g = if is_open g.phase then length g.kept.inbound.rows else g.opened
 
 -- ---- where it stands
 
--- what is to be done before all else: the gateway's settings are owed where nothing came yet
-abbrev pub pending_in : Phase → Pending
-pending_in phase.New = record balanced { owed = settings_frame ∷ [] }
-pending_in _ = balanced
+-- What is to be done before all else: the gateway's settings are owed where nothing came yet, and the connection's receiving window is to be larger by so
+-- many octets.
+abbrev pub pending_in : ℕ → Phase → Pending
+pending_in more phase.New = first_pending more
+pending_in more _ = balanced
 
 -- What is kept of the client's octets before its preface was read, and behind it.
 pub record IsUnbegun (partial text : List ℕ) (t : List Entry) : Type 0 where
@@ -111,7 +112,7 @@ IsFresh _ kept = Unit {0}
 -- The connection is open: moves lead to what is kept, where something may come in, and the octets that are kept are those that aren't read.
 pub record IsOpen (setup : Setup) (phase : Phase) (partial : List ℕ) (kept : View) (text : List ℕ) (run : List Move) : Type 0 where
   pub state : State
-  pub leads : Leads setup run kept (pending_in phase) state
+  pub leads : Leads setup run kept (pending_in setup.more_room phase) state
   pub settled : IsSettled kept
   pub octets : IsReadIn phase partial text (tape_of run)
   pub unbroken : breaches (tape_of run) ≡ []

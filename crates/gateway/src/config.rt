@@ -9,6 +9,7 @@ ghost use Rattle.gateway.specs.Setups.{route_of, policy_of, setup_of};
 ghost use Rattle.gateway.specs.declared.config.Policy.TheVariants.{Plain};
 ghost use Rattle.gateway.specs.declared.config.Passing.TheVariants.{Whole};
 
+use protocol::limits::FIRST_WINDOW;
 use std::alloc::{AllocError, Global};
 use std::string::String;
 
@@ -59,15 +60,18 @@ pub struct Config {
     /// The most of them that are idle at once, beside those that serve a request. With none each
     /// is closed behind its response.
     pub idle: u8,
+    /// The octets that receiving windows have at first, those of streams and that of the connection
+    /// (RFC 9113, section 6.9.2): at most 1,048,576, and never fewer than 65,535.
+    pub window: u32,
 }
 
 impl Config {
     /// What the configuration of these routes is where it says nothing else: blocks are written
     /// without the dynamic table, bodies are passed on whole, those of requests and of responses
     /// have at most 1,048,576 octets, and no upstream connection is kept. Where they are, eight may
-    /// be idle.
+    /// be idle. Receiving windows have 65,535 octets at first.
     pub fn new(routes: Vec<Route>) -> Config
-        ensures { result ≡ record { routes = routes; policy = Plain; passing = Whole; max_body = 1048576; max_response = 1048576; keep = false; idle = 8 } }
+        ensures { result ≡ record { routes = routes; policy = Plain; passing = Whole; max_body = 1048576; max_response = 1048576; keep = false; idle = 8; window = 65535 } }
     {
         Config {
             routes,
@@ -77,6 +81,7 @@ impl Config {
             max_response: 1_048_576,
             keep: false,
             idle: 8,
+            window: FIRST_WINDOW,
         }
     }
 
@@ -115,6 +120,13 @@ impl Config {
             Passing::Whole => upstream_response::ResponsePassing::Whole(self.max_response),
             Passing::Streaming => upstream_response::ResponsePassing::Streaming,
         }
+    }
+
+    /// By how many octets receiving windows are larger at first than 65,535.
+    pub(crate) fn more_room(&self) -> u32
+        ensures { result ≡ (setup_of self.now).more_room }
+    {
+        self.window.saturating_sub(FIRST_WINDOW)
     }
 
     /// How blocks are encoded.

@@ -24,7 +24,7 @@ ghost use Rattle.theory_memory_bound.specs.Held.{IsSmall, held_in as held_in_ses
 ghost use Rattle.gateway.specs.Held.{IsHeldWithin, held_in};
 ghost use Rattle.gateway.specs.Rooms.{TellsRoom, AreRooms, AreAllIdle, room_in, rooms_in, turns, fails};
 ghost use Rattle.gateway.specs.Setups.{setup_of, IsServable};
-ghost use Rattle.gateway.specs.Stands.{IsFresh, Serves, Stands, StandsNext, admits, room_of, opened_in, is_dead, is_open};
+ghost use Rattle.gateway.specs.Stands.{IsFresh, Serves, Stands, StandsNext, admits, room_of, opened_in, pending_in, is_dead, is_open};
 ghost use Rattle.gateway.specs.Receiving.{Receives, ReadsOn, Happens, Greets, KeepsTerms, IsSettledIf, is_begun};
 
 use crate::config::Config;
@@ -35,7 +35,7 @@ use connection_state::{Connection, Terms};
 use effects::{Event, Output, Outputs};
 use event_handlers::paying::greet;
 use event_handlers::{
-    Breach, Onward, ServiceTerms, client_took, end, fail, hear, leave, leave_at, up_took,
+    Breach, Onward, ServiceTerms, client_took, drain, end, fail, hear, leave, leave_at, up_took,
 };
 use header_blocks::Encoder;
 use local_replies::RoutePattern;
@@ -110,7 +110,8 @@ fn is_failure(event: &Event) -> bool
         | Event::ClientTook(_)
         | Event::Up(_, _)
         | Event::UpEnd(_)
-        | Event::UpTook(_, _) => false,
+        | Event::UpTook(_, _)
+        | Event::Drain => false,
     }
 }
 
@@ -135,7 +136,7 @@ fn new_session(alloc: Global) -> Session
     ensures no_marks { result.marks ≡ [] }
 {
     Session {
-        inbound: Connection::new(alloc),
+        inbound: Connection::new(alloc, 0),
         offers: Offers::new(alloc),
         upstreams: Upstreams::new(alloc),
         marks: Marks::new(alloc),
@@ -192,8 +193,8 @@ impl Model for Gateway {
 
 impl Gateway {
     /// A gateway for a new connection of a client, to which nothing came. The maxima are at most
-    /// 1,073,741,824, and there are at most 4,294,967,295 routes. An `Err` says that memory was
-    /// refused.
+    /// 1,073,741,824, windows have at most 1,048,576 octets, and there are at most 4,294,967,295
+    /// routes. An `Err` says that memory was refused.
     pub fn new(alloc: Global, config: &Config) -> Result<Gateway, AllocError>
         requires { IsServable (setup_of config.now) }
         ensures { IfOk result (λ gateway. Stands (setup_of config.now) gateway [] []) }
@@ -209,7 +210,7 @@ impl Gateway {
             phase: Phase::New,
             partial: Vec::new(alloc),
             session: Session {
-                inbound: Connection::new(alloc),
+                inbound: Connection::new(alloc, config.more_room()),
                 offers: Offers::new(alloc),
                 upstreams: Upstreams::new(alloc),
                 marks: Marks::new(alloc),
@@ -285,7 +286,8 @@ impl Gateway {
     /// Whether an event may come now: never once the client is closed or memory was refused; octets
     /// of the client at most 65,536 at a time, and while at most 1,073,741,824 octets for it aren't
     /// taken; octets of an upstream, at most as many as it has room for, while its connection is
-    /// open; of octets only those as taken that were put out and aren't yet.
+    /// open; of octets only those as taken that were put out and aren't yet. That the connection is
+    /// to be drained may come again.
     pub fn admits(&self, event: &Event) -> bool
         ensures state { result ≡ admits self.now (event_of event.now) }
         // It is what the log tells that the gateway stands for.
@@ -308,6 +310,7 @@ impl Gateway {
             Event::Up(k, piece) => self.fits(*k, piece.len()),
             Event::UpEnd(k) | Event::UpFailed(k) => self.is_up(*k),
             Event::UpTook(k, count) => self.may_take(*k, *count),
+            Event::Drain => true,
         }
     }
 
@@ -410,7 +413,7 @@ impl Gateway {
         ensures closed { IsErrOf result Fault.Closed ↔ (is_dead self.old.phase ≡ true) }
         // What it holds of octets behind a step, answered or refused, stays below its bound, and
         // what it holds for each stream below a part of that; and of no stream it has more marks of
-        // DATA that waits than the connection's first receiving window has octets.
+        // DATA that waits than receiving windows have octets at first.
         ensures held { (setup : Setup) (log : List Step) (run : List Move) → Stands setup self.old log run → IsHeldWithin setup self.new }
         // Once it is closed, or memory was refused, it holds none.
         ensures lets_go { is_dead self.old.phase ≡ false → is_open self.new.phase ≡ false → held_in self.new ≡ 0 }
@@ -489,6 +492,7 @@ impl Gateway {
     fn greet(&mut self, out: &mut Outputs) -> Result<(), AllocError>
         requires settled { IsSettled self.old.kept }
         requires fresh { IsFresh self.old.phase self.old.kept }
+        requires reached { (setup : Setup) × Reached setup self.old.kept (pending_in setup.more_room self.old.phase) }
         requires nothing { out.old ≡ [] }
         ensures { OnOk result (Greets self.old self.new out.new) }
     {
@@ -523,6 +527,7 @@ impl Gateway {
             Event::UpEnd(k) => end(alloc, session, *k, out),
             Event::UpFailed(k) => fail(alloc, session, *k, out),
             Event::UpTook(k, count) => up_took(alloc, session, *k, *count, out),
+            Event::Drain => drain(alloc, session, out),
         }
     }
 

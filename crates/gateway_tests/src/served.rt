@@ -262,6 +262,7 @@ fn write_event(event: &Event, text: &mut Vec<u8>) -> io::Result<()> {
         Event::UpEnd(k) => write!(text, "\nue {k}")?,
         Event::UpFailed(k) => write!(text, "\nuf {k}")?,
         Event::UpTook(k, count) => write!(text, "\nut {k} {count}")?,
+        Event::Drain => write!(text, "\nd")?,
     }
     Ok(())
 }

@@ -34,7 +34,7 @@ pub(crate) fn came_of(next: &Result<Next, WorldFault>) -> Option<Came> {
         Event::Up(number, _) => Some(Came::Up(*number)),
         Event::UpEnd(number) => Some(Came::UpEnd(*number)),
         Event::UpFailed(number) => Some(Came::UpFailed(*number)),
-        Event::ClientTook(_) | Event::UpTook(_, _) => None,
+        Event::ClientTook(_) | Event::UpTook(_, _) | Event::Drain => None,
     }
 }
 

@@ -13,7 +13,7 @@ use Rattle.model.specs.Tapes.Entry.{Came, Sent}
 use Rattle.model.specs.Decoding.{Partial, completed}
 use Rattle.model.specs.Streams.{frame_items}
 use Rattle.model.specs.Available.{items_on}
-use Rattle.model.specs.Lifetimes.{opened, opens_by, is_opened, is_over, is_active, ends_by, is_ended_by_client, is_ended_by_gateway, is_reset_by_client, is_reset_by_gateway}
+use Rattle.model.specs.Lifetimes.{is_drained, opened, opens_by, is_opened, is_over, is_active, ends_by, is_ended_by_client, is_ended_by_gateway, is_reset_by_client, is_reset_by_gateway}
 
 -- ---- active streams
 
@@ -69,8 +69,8 @@ active_came t noted stream other =
     ap (λ b. (noted.frame.kind == rst_stream_kind && b) || is_reset_by_client stream t) no ∙ ap (λ b. b || is_reset_by_client stream t) (and_right (noted.frame.kind == rst_stream_kind) false refl) in
     let ended : (noted.frame.id == stream && ends_by (completed (came t) noted.frame) noted.frame || is_ended_by_client stream t) ≡ is_ended_by_client stream t =
     ap (λ b. b && ends_by (completed (came t) noted.frame) noted.frame || is_ended_by_client stream t) no in
-    let there : list_any (λ id. id == stream) (if opens_by (opened t) (completed (came t) noted.frame) noted.note then noted.frame.id ∷ opened t else opened t) ≡ is_opened stream t =
-    by (opens_by (opened t) (completed (came t) noted.frame) noted.note) no in
+    let there : list_any (λ id. id == stream) (if opens_by (is_drained t) (opened t) (completed (came t) noted.frame) noted.note then noted.frame.id ∷ opened t else opened t) ≡ is_opened stream t =
+    by (opens_by (is_drained t) (opened t) (completed (came t) noted.frame) noted.note) no in
     ap (λ b. b && not (is_over stream (Came noted ∷ t))) there
     ∙ ap (λ b. is_opened stream t && not (is_reset_by_gateway stream t || b || (noted.frame.id == stream && ends_by (completed (came t) noted.frame) noted.frame || is_ended_by_client stream t) && is_ended_by_gateway stream t)) reset
     ∙ ap (λ b. is_opened stream t && not (is_reset_by_gateway stream t || is_reset_by_client stream t || b && is_ended_by_gateway stream t)) ended

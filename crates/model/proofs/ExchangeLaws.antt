@@ -3,7 +3,7 @@ use Rattle.std.proofs.Common.{◌≡◌, ℕ, Bool, true, false, not, ◌&&◌, 
 use Rattle.std.proofs.lemmas.List.{append-nil}
 use Rattle.std.proofs.lemmas.Bool.{ne_eqb, eq-eqb, and_right}
 use Rattle.std.proofs.lemmas.Bool.Decides.{eqb_tells}
-use Rattle.model.specs.Logs.Event.{Client, ClientEnd, ClientTook, Up, UpEnd, UpFailed, UpTook}
+use Rattle.model.specs.Logs.Event.{Client, ClientEnd, ClientTook, Up, UpEnd, UpFailed, UpTook, Drain}
 use Rattle.model.specs.Logs.Act.{Open, ToUp, Close, CloseClient}
 use Rattle.model.specs.Tapes.{Entry, sent_up}
 use Rattle.model.specs.Tapes.Entry.{Came, Breached, Happened, Sent, Did}
@@ -166,6 +166,7 @@ unheard o (Happened (Up k piece) ∷ t) n some = let more = unheard o t n some i
 unheard o (Happened (UpEnd k) ∷ t) n some = let more = unheard o t n some in (more.0, ap (λ b. if b then true else ended_by o t) (apart_of o k (exchanges t) n some) ∙ more.1)
 unheard o (Happened (UpFailed k) ∷ t) n some = unheard o t n some
 unheard o (Happened (UpTook k count) ∷ t) n some = unheard o t n some
+unheard o (Happened Drain ∷ t) n some = unheard o t n some
 unheard o (Sent noted ∷ t) n some = unheard o t n some
 unheard o (Did (Open k route) ∷ t) n some = unheard o t n.1 some
 unheard o (Did (ToUp k octets) ∷ t) n some = unheard o t (none_before o.stream k octets t n) some

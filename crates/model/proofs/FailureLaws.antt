@@ -3,7 +3,7 @@ use Rattle.std.proofs.Common.{◌≡◌, ℕ, ◌≤◌, ◌<◌, Bool, true, fa
 use Rattle.std.specs.Prelude.{Option, Some, None, nat_lt, ◌&&◌}
 use Rattle.std.proofs.lemmas.Bool.Decides.{eqb_tells}
 use Rattle.model.specs.Logs.{Event}
-use Rattle.model.specs.Logs.Event.{Client, ClientEnd, ClientTook, Up, UpEnd, UpFailed, UpTook}
+use Rattle.model.specs.Logs.Event.{Client, ClientEnd, ClientTook, Up, UpEnd, UpFailed, UpTook, Drain}
 use Rattle.model.specs.Responses.{IsComplete}
 use Rattle.model.specs.Tapes.{Entry, sent}
 use Rattle.model.specs.Tapes.Entry.{Came, Breached, Happened, Sent, Did}
@@ -11,6 +11,7 @@ use Rattle.model.specs.Errors.{Fault}
 use Rattle.model.specs.Streams.{items_of}
 use Rattle.model.specs.Openings.{Opened, exchange_on}
 use Rattle.model.specs.Available.{heard_by, items_on}
+use Rattle.model.specs.Setup.{own_window}
 use Rattle.model.specs.Known.{Known, fails_behind, with_failure}
 use Rattle.model.specs.Causes.{Cause, cause_if}
 use Rattle.model.specs.Causes.Cause.{BadAnswer}
@@ -36,7 +37,7 @@ same_cause place known c t (Did act) found lt = refl
 
 same_step : (place : ℕ) (known : Known) (stream : ℕ) (t : List Entry) (e : Entry) (c : Course) → length t < place → next_course (with_failure place known) stream t e c ≡ next_course known stream t e c
 same_step place known stream t e c lt =
-    let found = fault_with (carried c) t e in
+    let found = fault_with (own_window known.setup) (carried c) t e in
     let same : new_cause (with_failure place known) stream t e c found ≡ new_cause known stream t e c found =
     ap (λ (x : Option Cause). if about t e == stream && nat_lt 0 stream then x else None) (same_cause place known c t e found lt) in
     ap (λ (x : Option Cause). course_behind c (interrupts stream e found x) (items_of stream t e) x (items_on stream (sent t))) same
@@ -105,6 +106,7 @@ module _ (place : ℕ) (known : Known) where
   may_more t ClientEnd le h = absurd h
   may_more t (ClientTook count) le h = absurd h
   may_more t (UpTook k count) le h = absurd h
+  may_more t Drain le h = absurd h
 
   -- and one with which it must be was one
   must_less : (t : List Entry) (event : Event) → length t ≤ place → MustFail more t event → MustFail known t event
@@ -117,6 +119,7 @@ module _ (place : ℕ) (known : Known) where
   must_less t ClientEnd le h = absurd h
   must_less t (ClientTook count) le h = absurd h
   must_less t (UpTook k count) le h = absurd h
+  must_less t Drain le h = absurd h
 
   -- What was judged of an event is right with it.
   pub judged_more : (t : List Entry) (event : Event) (fails : Bool) → length t ≤ place → IsJudged known t event fails → IsJudged more t event fails

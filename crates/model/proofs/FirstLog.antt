@@ -26,7 +26,7 @@ use Rattle.model.specs.Available.{items_on}
 
 -- one route for every authority and path
 abbrev pub setup : Setup
-setup = record { routes = record { authority = []; path = codes "/" } ∷ []; policy = Plain; passing = Whole; max_body = 1000; max_response = 1000; keep = false; most_idle = 8 }
+setup = record { routes = record { authority = []; path = codes "/" } ∷ []; policy = Plain; passing = Whole; max_body = 1000; max_response = 1000; keep = false; most_idle = 8; more_room = 0 }
 
 abbrev pub settings : Frame
 settings = record { kind = 4; flags = 0; id = 0; payload = [] }
@@ -50,7 +50,7 @@ text = codes "GET / HTTP/1.1\r\nhost: a\r\nvia: 2.0 h2gw\r\nconnection: close\r\
 abbrev pub step : Step
 step = record {
   event = Client (preface ++ spell settings ++ spell headers);
-  outputs = ToClient (spell settings_frame ++ spell settings_ack) ∷ Does (Open 1 0) ∷ Does (ToUp 1 text) ∷ [];
+  outputs = ToClient (spell (settings_frame 0) ++ spell settings_ack) ∷ Does (Open 1 0) ∷ Does (ToUp 1 text) ∷ [];
 }
 
 abbrev pub settings_came : Noted
@@ -63,7 +63,7 @@ headers_came = record { frame = headers; note = Fields head }
 abbrev pub tape : List Entry
 tape =
     Did (ToUp 1 text) ∷ Did (Open 1 0) ∷ Came headers_came ∷ Sent (record { frame = settings_ack; note = NoBlock }) ∷ Came settings_came
-    ∷ Sent (record { frame = settings_frame; note = NoBlock }) ∷ []
+    ∷ Sent (record { frame = settings_frame 0; note = NoBlock }) ∷ []
 
 -- ---- the client's octets are the preface and the two frames
 
@@ -223,7 +223,7 @@ nothing_on stream = elim (0 == stream) as (λ b. ([] ++ (if b then [] else [])) 
 
 -- ---- the log
 
-pub settings_fits : Fits settings_frame
+pub settings_fits : Fits (settings_frame 0)
 settings_fits = record { kind = omega arith; flags = omega arith; id = omega arith; payload = omega arith }
 
 pub ack_fits : Fits settings_ack

@@ -2,7 +2,7 @@
 use Rattle.std.proofs.Common.{◌≡◌, ℕ, true, false, List, [], ◌∷◌, refl, sym, ap, ◌∙◌, inl, inr, arith, if◌then◌else◌}
 use Rattle.std.proofs.lemmas.Bool.{ne_eqb}
 use Rattle.std.proofs.lemmas.Bool.Decides.{eqb_tells}
-use Rattle.model.specs.Logs.Event.{Client, ClientEnd, ClientTook, Up, UpEnd, UpFailed, UpTook}
+use Rattle.model.specs.Logs.Event.{Client, ClientEnd, ClientTook, Up, UpEnd, UpFailed, UpTook, Drain}
 use Rattle.model.specs.Logs.Act.{Open, ToUp, Close, CloseClient}
 use Rattle.model.specs.Tapes.{Entry}
 use Rattle.model.specs.Tapes.Entry.{Came, Breached, Happened, Sent, Did}
@@ -50,6 +50,7 @@ open_given k (Happened (UpFailed j) ∷ t) on = elim (eqb_tells k j) [
   | inr apart ↦ open_given k t (sym (ap (λ b. if b then false else is_open k t) apart.0) ∙ on)
 ]
 open_given k (Happened (UpTook j count) ∷ t) on = open_given k t on
+open_given k (Happened Drain ∷ t) on = open_given k t on
 open_given k (Sent noted ∷ t) on = open_given k t on
 open_given k (Did (Open j route) ∷ t) on = elim (eqb_tells k j) [
   | inl same ↦ (record { k = j; route = route; stream = last_stream t }, inl refl, sym same.1)

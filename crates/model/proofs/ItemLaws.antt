@@ -15,6 +15,7 @@ use Rattle.model.specs.Decoding.{Partial, completed}
 use Rattle.model.specs.Errors.{Fault}
 use Rattle.model.specs.Errors.Fault.{Connection, Stream, Discarded}
 use Rattle.model.specs.Streams.{block_items, frame_items, items_of, is_reset, is_ended_by}
+use Rattle.model.specs.Setup.{own_window}
 use Rattle.model.specs.Known.{Known}
 use Rattle.model.specs.Lifetimes.{ends_by, is_ended_by_client}
 use Rattle.model.specs.ErrorTable.{fault_with}
@@ -25,7 +26,7 @@ use Rattle.model.proofs.LifeLaws.{ended_stays}
 -- whether the items of a stream were over, or an entry interrupts them
 abbrev pub is_interrupted : Known → ℕ → List Entry → Entry → Bool
 is_interrupted known stream t e =
-    let before = course known stream t in before.over || interrupts stream e (fault_with (carried before) t e) (cause_of known stream t e)
+    let before = course known stream t in before.over || interrupts stream e (fault_with (own_window known.setup) (carried before) t e) (cause_of known stream t e)
 
 -- the first item tells the method
 first_tells : (b : Bool) (xs ys : List Item) → (xs ≡ [] → ⊥) → is_to_head xs ≡ is_to_head (if b then xs else xs ++ ys)

@@ -7,16 +7,15 @@ use Rattle.model.specs.Frames.{rst_stream_kind}
 use Rattle.model.specs.Tapes.{Noted, Entry, came, sent}
 use Rattle.model.specs.Tapes.Entry.{Came, Breached, Happened, Sent, Did}
 use Rattle.model.specs.Decoding.{completed}
-use Rattle.model.specs.Limits.{most_streams}
 use Rattle.model.specs.Known.{Known}
-use Rattle.model.specs.Lifetimes.{opened, opens_by, ends_by, active, is_opened, is_over, is_active, is_exhausted, is_ended_by_client, is_ended_by_gateway, is_reset_by_client, is_reset_by_gateway}
+use Rattle.model.specs.Lifetimes.{is_drained, is_full, opened, opens_by, ends_by, active, is_opened, is_over, is_active, is_exhausted, is_ended_by_client, is_ended_by_gateway, is_reset_by_client, is_reset_by_gateway}
 use Rattle.model.specs.ErrorClause.{is_calming, calls_for_end, must_end}
 
 -- ---- streams that are over
 
 -- a stream that was opened stays so
 pub opened_stays : (t : List Entry) (e : Entry) (stream : ℕ) → is_opened stream t ≡ true → is_opened stream (e ∷ t) ≡ true
-opened_stays t (Came noted) stream is = by (opens_by (opened t) (completed (came t) noted.frame) noted.note)
+opened_stays t (Came noted) stream is = by (opens_by (is_drained t) (opened t) (completed (came t) noted.frame) noted.note)
   where
     or_true : (b : Bool) → (b || is_opened stream t) ≡ true
     or_true true = refl
@@ -111,6 +110,6 @@ ends_sent known t noted ends = by (is_calming noted.frame) (calls_for_end known 
 
     exhausted : is_exhausted t ≡ true → is_exhausted (Sent noted ∷ t) ≡ true
     exhausted e =
-        let parts = and_parts (length (opened t) == most_streams) (length (active t) == 0) e in
-        and_from (length (opened t) == most_streams) (length (active (Sent noted ∷ t)) == 0) parts.0
+        let parts = and_parts (is_full t) (length (active t) == 0) e in
+        and_from (is_full t) (length (active (Sent noted ∷ t)) == 0) parts.0
         (eq-eqb (length (active (Sent noted ∷ t))) 0 (none_left (λ id. not (is_over id t)) (λ id. not (is_over id (Sent noted ∷ t))) going (opened t) (eqb-true (length (active t)) 0 parts.1)))

@@ -14,7 +14,7 @@ use Rattle.model.specs.Errors.Fault.{Connection}
 use Rattle.model.specs.Known.{Known}
 use Rattle.std.specs.List.{list_any}
 use Rattle.model.proofs.OpenedLaws.{not_opened}
-use Rattle.model.specs.Lifetimes.{may_open, opened, highest, ends_by, is_ended_by_client}
+use Rattle.model.specs.Lifetimes.{is_drained, may_open, opened, highest, ends_by, is_ended_by_client}
 use Rattle.model.specs.Causes.{Cause}
 use Rattle.model.specs.Courses.{Course, course, about, fault, new_cause, first_of_both}
 use Rattle.model.specs.ErrorClause.{last_goaway, acks, reset_for, resets, reset_behind, rst_stream, owed_by, is_passing}
@@ -28,11 +28,16 @@ neither n m = elim (eqb_tells n m) [
   | inr x ↦ and_right (nat_lt n m) (n == m) x.0
 ]
 
--- an entry that opens no stream calls for no last GOAWAY
-pub no_goaway : (t : List Entry) (e : Entry) → opened (e ∷ t) ≡ opened t → last_goaway t e ≡ []
-no_goaway t e same =
-    ap (λ ids. if nat_lt (length (opened t)) most_streams && length ids == most_streams then goaway (highest (e ∷ t)) no_error ∷ [] else []) same
-    ∙ ap (λ b. if b then goaway (highest (e ∷ t)) no_error ∷ [] else []) (neither (length (opened t)) most_streams)
+pub neither_full : (drained : Bool) (n m : ℕ) → (not drained && nat_lt n m && (drained || n == m)) ≡ false
+neither_full true n m = refl
+neither_full false n m = neither n m
+
+-- an entry that opens no stream, and with which the connection isn't drained, calls for no last GOAWAY
+pub no_goaway : (t : List Entry) (e : Entry) → opened (e ∷ t) ≡ opened t → is_drained (e ∷ t) ≡ is_drained t → last_goaway t e ≡ []
+no_goaway t e same drained =
+    ap (λ ids. if not (is_drained t) && nat_lt (length (opened t)) most_streams && (is_drained (e ∷ t) || length ids == most_streams) then goaway (highest (e ∷ t)) no_error ∷ [] else []) same
+    ∙ ap (λ x. if not (is_drained t) && nat_lt (length (opened t)) most_streams && (x || length (opened t) == most_streams) then goaway (highest (e ∷ t)) no_error ∷ [] else []) drained
+    ∙ ap (λ b. if b then goaway (highest (e ∷ t)) no_error ∷ [] else []) (neither_full (is_drained t) (length (opened t)) most_streams)
 
 -- ---- no reset for a cause
 
@@ -53,7 +58,7 @@ no_reset known t e none =
 
 pub did_nothing : (known : Known) (t : List Entry) (act : Act) → owed_by known t (Did act) ≡ []
 did_nothing known t act =
-    ap (λ first. first ++ (resets known 0 t (Did act) ++ [])) (no_goaway t (Did act) refl)
+    ap (λ first. first ++ (resets known 0 t (Did act) ++ [])) (no_goaway t (Did act) refl refl)
     ∙ ap (λ fs. fs ++ []) (no_reset known t (Did act) refl)
 
 -- ---- frames beside responses
@@ -77,7 +82,7 @@ nothing_behind t noted control =
 -- a frame beside responses calls for nothing
 pub control_owes_nothing : (known : Known) (t : List Entry) (noted : Noted) → is_passing noted ≡ false → owed_by known t (Sent noted) ≡ []
 control_owes_nothing known t noted control =
-    ap (λ first. first ++ (resets known 0 t (Sent noted) ++ reset_behind t (Sent noted))) (no_goaway t (Sent noted) refl)
+    ap (λ first. first ++ (resets known 0 t (Sent noted) ++ reset_behind t (Sent noted))) (no_goaway t (Sent noted) refl refl)
     ∙ ap (λ fs. fs ++ reset_behind t (Sent noted)) (no_reset known t (Sent noted) refl)
     ∙ nothing_behind t noted control
 
@@ -116,9 +121,9 @@ no_cause_of_fault known stream t noted c found = cases (noted.frame.id == stream
 -- ---- streams
 
 -- a stream that was opened may not be opened again
-pub not_again : (ids : List ℕ) (id : ℕ) → list_any (λ other. other == id) ids ≡ true → may_open ids id ≡ false
-not_again ids id opened = cases (may_open ids id) refl
+pub not_again : (drained : Bool) (ids : List ℕ) (id : ℕ) → list_any (λ other. other == id) ids ≡ true → may_open drained ids id ≡ false
+not_again drained ids id opened = cases (may_open drained ids id) refl
   where
-    cases : (b : Bool) → may_open ids id ≡ b → may_open ids id ≡ false
+    cases : (b : Bool) → may_open drained ids id ≡ b → may_open drained ids id ≡ false
     cases false is = is
-    cases true may = absurd (let no : true ≡ false = sym opened ∙ not_opened ids id may in cc)
+    cases true may = absurd (let no : true ≡ false = sym opened ∙ not_opened drained ids id may in cc)

@@ -3,7 +3,7 @@ use Rattle.std.specs.Prelude.{ℕ, ◌+◌, ◌-◌, Bool, true, false, not, ◌
 use Rattle.model.specs.Limits.{most_untaken}
 use Rattle.model.specs.Frames.{spell}
 use Rattle.model.specs.Logs.{Event}
-use Rattle.model.specs.Logs.Event.{Client, ClientEnd, ClientTook, Up, UpEnd, UpFailed, UpTook}
+use Rattle.model.specs.Logs.Event.{Client, ClientEnd, ClientTook, Up, UpEnd, UpFailed, UpTook, Drain}
 use Rattle.model.specs.Logs.Act.{Open, ToUp, Close}
 use Rattle.model.specs.Tapes.{Entry, is_closed}
 use Rattle.model.specs.Tapes.Entry.{Happened, Sent, Did}
@@ -47,6 +47,7 @@ is_in_order t (Up k piece) = is_open k t && nat_le (length piece) (room k t)
 is_in_order t (UpEnd k) = is_open k t
 is_in_order t (UpFailed k) = is_open k t
 is_in_order t (UpTook k count) = is_open k t && nat_le count (untaken_up k t)
+is_in_order t Drain = true
 
 -- the event may come behind the tape: once the client is closed none may
 abbrev pub is_admitted : List Entry → Event → Bool

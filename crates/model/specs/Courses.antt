@@ -22,7 +22,7 @@ use Rattle.model.specs.Errors.{Fault}
 use Rattle.model.specs.Streams.{is_on, is_reset, is_ended_by, items_of}
 use Rattle.model.specs.Openings.{exchanges, given}
 use Rattle.model.specs.Available.{items_on}
-use Rattle.model.specs.Setup.{Setup}
+use Rattle.model.specs.Setup.{Setup, own_window}
 use Rattle.model.specs.Known.{Known, fails_behind}
 use Rattle.model.specs.Causes.{Cause, are_large, cause_if, cause_of_head}
 use Rattle.model.specs.Causes.Cause.{LargeFields, LargeBody, BadAnswer}
@@ -117,7 +117,7 @@ course_behind course interrupted new cause out = record {
 
 abbrev pub next_course : Known → ℕ → List Entry → Entry → Course → Course
 next_course known stream t e course =
-    let found = fault_with (carried course) t e in
+    let found = fault_with (own_window known.setup) (carried course) t e in
     let cause = new_cause known stream t e course found in
     course_behind course (interrupts stream e found cause) (items_of stream t e) cause (items_on stream (sent t))
 
@@ -135,8 +135,8 @@ cause known stream t = (course known stream t).cause
 
 -- the cause that an entry behind a tape is for a stream
 abbrev pub cause_of : Known → ℕ → List Entry → Entry → Option Cause
-cause_of known stream t e = let before = course known stream t in new_cause known stream t e before (fault_with (carried before) t e)
+cause_of known stream t e = let before = course known stream t in new_cause known stream t e before (fault_with (own_window known.setup) (carried before) t e)
 
 -- the fault of an entry behind a tape
 abbrev pub fault : Known → List Entry → Entry → Option Fault
-fault known t e = fault_with (carried (course known (about t e) t)) t e
+fault known t e = fault_with (own_window known.setup) (carried (course known (about t e) t)) t e

@@ -131,7 +131,7 @@ stands_in known t noted = is_calming noted.frame && not (calls_for_end known t)
 -- What all entries call for, the newest first: the gateway's settings come before anything else. Behind a GOAWAY that stands in place of another
 -- frame nothing is called for any more but what was sent.
 abbrev pub owed : Known → List Entry → List Frame
-owed known [] = settings_frame ∷ []
+owed known [] = settings_frame known.setup.more_room ∷ []
 owed known (Came noted ∷ t) = reverse (owed_by known t (Came noted)) ++ owed known t
 owed known (Breached breach ∷ t) = reverse (owed_by known t (Breached breach)) ++ owed known t
 owed known (Happened event ∷ t) = reverse (owed_by known t (Happened event)) ++ owed known t
@@ -248,7 +248,7 @@ EndsInTime known (e ∷ t) = (must_end known t ≡ false) × EndsInTime known t
 -- what an entry calls for before all else came next; the GOAWAY of the last stream came before any act. The client is closed just
 -- where the connection is to end.
 pub record ErrorsHold (known : Known) (t : List Entry) : Type 0 where
-  pub begins : (newer : List Frame) × (map (λ noted. noted.frame) (sent t) ≡ newer ++ settings_frame ∷ [])
+  pub begins : (newer : List Frame) × (map (λ noted. noted.frame) (sent t) ≡ newer ++ settings_frame known.setup.more_room ∷ [])
   pub just_owed : controls (sent t) ≡ owed known t
   pub followed : AreFollowed known [] t
   pub goaway_first : GoawaysComeFirst t

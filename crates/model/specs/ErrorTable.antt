@@ -77,11 +77,11 @@ row_stream_update t (Came noted) =
     )
 row_stream_update t _ = None
 
--- DATA over an active stream's window
-abbrev pub row_stream_data : List Entry → Entry → Option Fault
-row_stream_data t (Came noted) =
-    fault_if (is_active noted.frame.id t && is_past_room (room_on noted.frame.id t) noted.frame) (Stream flow_control_error)
-row_stream_data t _ = None
+-- DATA over an active stream's window, where such windows begin with so many octets
+abbrev pub row_stream_data : ℕ → List Entry → Entry → Option Fault
+row_stream_data own t (Came noted) =
+    fault_if (is_active noted.frame.id t && is_past_room (room_on own noted.frame.id t) noted.frame) (Stream flow_control_error)
+row_stream_data own t _ = None
 
 -- ---- header blocks that can't be read (section 4.3)
 
@@ -197,20 +197,21 @@ rows_before_block t e =
     ∷ []
 
 -- the rows that are judged when it is
-abbrev pub rows_behind_block : List Entry → Entry → List (Option Fault)
-rows_behind_block t e =
+abbrev pub rows_behind_block : ℕ → List Entry → Entry → List (Option Fault)
+rows_behind_block own t e =
     row_block t e
     ∷ row_closed t e
     ∷ row_stream_update t e
-    ∷ row_stream_data t e
+    ∷ row_stream_data own t e
     ∷ row_refused t e
     ∷ row_no_goaway t e
     ∷ []
 
 -- the fault by all these rows
-abbrev pub fault_of_rows : List Entry → Entry → Option Fault
-fault_of_rows t e = first_of (rows_before_block t e ++ rows_behind_block t e)
+abbrev pub fault_of_rows : ℕ → List Entry → Entry → Option Fault
+fault_of_rows own t e = first_of (rows_before_block t e ++ rows_behind_block own t e)
 
--- The fault of an entry behind a tape, where its stream carried this: the last row alone looks at what it carried.
-abbrev pub fault_with : Carried → List Entry → Entry → Option Fault
-fault_with carried t e = or_else (fault_of_rows t e) (row_malformed carried t e)
+-- The fault of an entry behind a tape, where receiving windows begin with so many octets, and its stream carried this: the last row
+-- alone looks at what it carried.
+abbrev pub fault_with : ℕ → Carried → List Entry → Entry → Option Fault
+fault_with own carried t e = or_else (fault_of_rows own t e) (row_malformed carried t e)

@@ -5,6 +5,7 @@ use Rattle.model.specs.Frames.{Frame}
 use Rattle.model.specs.Tapes.{Entry, sent}
 use Rattle.model.specs.Tapes.Entry.{Sent}
 use Rattle.model.specs.Known.{Known}
+use Rattle.model.specs.Setup.{own_window}
 use Rattle.model.specs.ErrorClause.{controls, owed, stands_in}
 use Rattle.model.specs.ProgressClause.{AllForwarded, AllStreamed}
 use Rattle.model.specs.WindowClause.{GoesBack}
@@ -15,7 +16,7 @@ pub record WouldReturn (known : Known) (t : List Entry) : Type 0 where
   pub just_owed : owed known t ≡ unpaid ++ controls (sent t)
   pub forwarded : AllForwarded known t
   pub streamed : AllStreamed known t
-  pub goes_back : GoesBack known.setup.passing t
+  pub goes_back : GoesBack (own_window known.setup) known.setup.passing t
 
 -- A frame would go: one that is owed beyond what was sent, or one with which octets are given back.
 pub data WouldGo (known : Known) (t : List Entry) : Type 0 where

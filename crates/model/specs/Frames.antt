@@ -176,10 +176,14 @@ enhance_your_calm = 11
 abbrev pub setting : ℕ → ℕ → List ℕ
 setting identifier value = identifier / 256 ∷ identifier % 256 ∷ spell_number value
 
--- The settings that the gateway announces (section 6.5.2): at most 100 concurrent streams (3), and header lists of at
--- most 16,384 octets (6).
-abbrev pub settings_frame : Frame
-settings_frame = record { kind = settings_kind; flags = 0; id = 0; payload = setting 3 100 ++ setting 6 16384 }
+-- The first size of streams' windows as an entry (4), where it isn't 65,535 (section 6.5.2): so many octets more.
+abbrev pub window_entry : ℕ → List ℕ
+window_entry more = if more == 0 then [] else setting 4 (65535 + more)
+
+-- The settings that the gateway announces (section 6.5.2): at most 100 concurrent streams (3), header lists of at
+-- most 16,384 octets (6), and the windows in which it receives, which have so many octets more than 65,535.
+abbrev pub settings_frame : ℕ → Frame
+settings_frame more = record { kind = settings_kind; flags = 0; id = 0; payload = setting 3 100 ++ (setting 6 16384 ++ window_entry more) }
 
 -- the answer to a client's settings (section 6.5.3)
 abbrev pub settings_ack : Frame

@@ -5,38 +5,58 @@ use Rattle.std.specs.List.{list_all, list_any}
 use Rattle.model.specs.Frames.{Frame, data_kind, rst_stream_kind, ends_stream}
 use Rattle.model.specs.Tapes.{Note, Noted, Entry, came, sent}
 use Rattle.model.specs.Tapes.Note.{Fields}
-use Rattle.model.specs.Tapes.Entry.{Came, Sent}
+use Rattle.model.specs.Tapes.Entry.{Came, Happened, Sent}
+use Rattle.model.specs.Logs.{Event}
+use Rattle.model.specs.Logs.Event.{Drain}
 use Rattle.model.specs.Decoding.{Partial, completed}
 use Rattle.model.specs.StreamStates.{StreamState, OpenedStream, Standing, standing}
 use Rattle.model.specs.Limits.{most_streams}
 use Rattle.model.specs.StreamStates.StreamState.{Open, HalfClosedRemote, HalfClosedLocal, Closed, ResetByPeer, ResetByUs}
 
+-- ---- the end that the operator asks for
+
+abbrev pub is_drain : Event → Bool
+is_drain Drain = true
+is_drain _ = false
+
+-- The operator wants the connection to end. From there on no stream is opened, as where all were that may be (section 6.8).
+abbrev pub is_drained : List Entry → Bool
+is_drained [] = false
+is_drained (Happened event ∷ t) = is_drain event || is_drained t
+is_drained (_ ∷ t) = is_drained t
+
 -- ---- opened
 
--- A client's stream has an odd id, above those of all streams before it (section 5.1.1); of them there are fewer than 10,000.
-abbrev pub may_open : List ℕ → ℕ → Bool
-may_open opened id = id % 2 == 1 && list_all (λ other. nat_lt other id) opened && nat_lt (length opened) most_streams
+-- A client's stream has an odd id, above those of all streams before it (section 5.1.1); of them there are fewer than 10,000,
+-- and none is opened where the connection is drained.
+abbrev pub may_open : Bool → List ℕ → ℕ → Bool
+may_open drained opened id =
+    id % 2 == 1 && list_all (λ other. nat_lt other id) opened && (not drained && nat_lt (length opened) most_streams)
 
 -- A stream is opened by its first header block, once that is whole and decoded, even if the stream is refused then.
-abbrev pub opens_by : List ℕ → Option Partial → Note → Bool
-opens_by opened (Some block) (Fields fields) = may_open opened block.id
-opens_by opened _ _ = false
+abbrev pub opens_by : Bool → List ℕ → Option Partial → Note → Bool
+opens_by drained opened (Some block) (Fields fields) = may_open drained opened block.id
+opens_by drained opened _ _ = false
 
 -- the streams that were opened, the newest first
 abbrev pub opened : List Entry → List ℕ
 opened [] = []
 opened (Came noted ∷ t) =
     let before = opened t in
-    if opens_by before (completed (came t) noted.frame) noted.note then noted.frame.id ∷ before else before
+    if opens_by (is_drained t) before (completed (came t) noted.frame) noted.note then noted.frame.id ∷ before else before
 opened (_ ∷ t) = opened t
 
 -- the highest of them, or 0
 abbrev pub highest : List Entry → ℕ
 highest t = fold max 0 (opened t)
 
--- the entry opens the last stream that a connection may have
+-- no stream may be opened any more: all were that a connection may have, or it is drained
+abbrev pub is_full : List Entry → Bool
+is_full t = is_drained t || length (opened t) == most_streams
+
+-- behind the entry none may be, and before it one might: it opens the last stream that a connection may have, or the operator asks for the end
 abbrev pub opens_last : List Entry → Entry → Bool
-opens_last t e = nat_lt (length (opened t)) most_streams && length (opened (e ∷ t)) == most_streams
+opens_last t e = not (is_drained t) && nat_lt (length (opened t)) most_streams && is_full (e ∷ t)
 
 abbrev pub is_opened : ℕ → List Entry → Bool
 is_opened stream t = list_any (λ id. id == stream) (opened t)
@@ -93,7 +113,7 @@ streams t = map (λ id. record { id = id; state = state_on t id }) (opened t)
 
 -- how an id stands to them
 abbrev pub standing_on : List Entry → ℕ → Standing
-standing_on t id = standing (streams t) id
+standing_on t id = standing (is_drained t) (streams t) id
 
 -- A stream is active from its opening until both sides have ended it or one has reset it.
 abbrev pub is_over : ℕ → List Entry → Bool
@@ -116,6 +136,6 @@ resets_by_client [] = 0
 resets_by_client (Came noted ∷ t) = if resets_active t noted.frame then suc (resets_by_client t) else resets_by_client t
 resets_by_client (_ ∷ t) = resets_by_client t
 
--- All streams that a connection may have were opened, and none is active any more.
+-- No stream may be opened, and none is active any more.
 abbrev pub is_exhausted : List Entry → Bool
-is_exhausted t = length (opened t) == most_streams && length (active t) == 0
+is_exhausted t = is_full t && length (active t) == 0

@@ -17,6 +17,8 @@ pub data Event : Type 0 where
   UpFailed : (k : ℕ) → Event
   -- an upstream's side took so many of the octets that were put out for it
   UpTook : (k : ℕ) → (count : ℕ) → Event
+  -- the operator wants the connection with the client to end (RFC 9113, section 6.8)
+  Drain : Event
 
 -- What is done beside sending to the client.
 pub data Act : Type 0 where

@@ -1,5 +1,6 @@
 -- What a gateway is set up with, and the route that a request takes.
-use Rattle.std.specs.Prelude.{◌≡◌, ℕ, ◌<◌, ◌⊎◌, Bool, List, [], slice_get, Some, codes}
+use Rattle.std.specs.Prelude.{◌≡◌, ℕ, ◌+◌, ◌<◌, ◌⊎◌, Bool, List, [], slice_get, Some, codes}
+use Rattle.model.specs.Limits.{first_window}
 use Rattle.model.specs.Octets.{IsFront, lower}
 
 -- A route to one upstream: the authority that it is for, empty where it is for any, and a front of the paths.
@@ -26,6 +27,12 @@ pub record Setup : Type 0 where
   pub keep : Bool
   -- the most that are idle then
   pub most_idle : ℕ
+  -- by so many octets the windows in which the gateway receives are larger at first than 65,535 (RFC 9113, section 6.9.2)
+  pub more_room : ℕ
+
+-- the size with which these windows begin, of the connection and of each stream
+abbrev pub own_window : Setup → ℕ
+own_window setup = first_window + setup.more_room
 
 -- The authority is the route's, in letters of either case (RFC 9110, section 4.2.3).
 abbrev pub IsForAuthority : Route → List ℕ → Type 0

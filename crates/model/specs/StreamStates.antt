@@ -94,7 +94,7 @@ pub data Standing : Type 0 where
   -- it is above the last id that a GOAWAY with NO_ERROR named (section 6.8)
   Beyond : Standing
 
--- the standing of an id that wasn't opened: whether it is above every opened one, and whether all streams were opened
+-- the standing of an id that wasn't opened: whether it is above every opened one, and whether none may be opened any more
 abbrev pub unopened : Bool → Bool → ℕ → Standing
 unopened above full id =
     if above && full then Beyond else (if id % 2 == 0 then ServerIdle else (if above then Idle else Skipped))
@@ -104,12 +104,12 @@ abbrev pub opened_or : Option StreamState → Standing → Standing
 opened_or (Some state) otherwise = Opened state
 opened_or None otherwise = otherwise
 
--- how an id stands to the streams that were opened so far
-abbrev pub standing : List OpenedStream → ℕ → Standing
-standing streams id =
+-- how an id stands to the streams that were opened so far; where the connection is drained, no other is opened
+abbrev pub standing : Bool → List OpenedStream → ℕ → Standing
+standing drained streams id =
     if id == 0
     then WholeConnection
-    else opened_or (state_of id streams) (unopened (is_above id streams) (length streams == most_streams) id)
+    else opened_or (state_of id streams) (unopened (is_above id streams) (drained || length streams == most_streams) id)
 
 -- What comes of a frame by the standing of its id.
 pub data Verdict : Type 0 where

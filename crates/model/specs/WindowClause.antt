@@ -3,11 +3,10 @@
 use Rattle.std.specs.Prelude.{◌≡◌, ℕ, ◌+◌, ◌<◌, true, false, ◌==◌, nat_lt, if◌then◌else◌, List, [], ◌∷◌, length, ℤ, pos, ◌-ℤ◌, ◌≤ℤ◌, ◌<ℤ◌, ◌⊎◌, sum_by}
 use Rattle.model.specs.Frames.{Frame, data_kind, window_update_kind}
 use Rattle.model.specs.Logs.Event.{UpTook}
-use Rattle.model.specs.Setup.{Passing}
+use Rattle.model.specs.Setup.{Passing, own_window}
 use Rattle.model.specs.Setup.Passing.{Whole, Streaming}
 use Rattle.model.specs.Tapes.{Entry, is_closed, sent_up}
 use Rattle.model.specs.Tapes.Entry.{Came, Breached, Happened, Sent}
-use Rattle.model.specs.Limits.{first_window}
 use Rattle.model.specs.Openings.{Opened, exchange_for}
 use Rattle.model.specs.Known.{Known}
 use Rattle.model.specs.Lifetimes.{active, is_active, is_ended_by_client}
@@ -66,37 +65,37 @@ abbrev pub kept_in_all : Passing → List Entry → ℕ
 kept_in_all passing t = sum_by (λ stream. kept passing stream t) (active t)
 
 -- Each receiving window is as at first, but for what is kept: that of the connection, and that of each active stream that the
--- client hasn't ended.
+-- client hasn't ended. So where windows begin with more than 65,535 octets, the connection's is made as large before anything comes in.
 pub record GivesBack (known : Known) (t : List Entry) : Type 0 where
-  pub shared : room_on_connection t ≡ pos first_window -ℤ pos (kept_in_all known.setup.passing t)
+  pub shared : room_on_connection t ≡ pos (own_window known.setup) -ℤ pos (kept_in_all known.setup.passing t)
   pub own : (stream : ℕ) → is_active stream t ≡ true → is_ended_by_client stream t ≡ false
-      → room_on stream t ≡ pos first_window -ℤ pos (kept known.setup.passing stream t)
+      → room_on (own_window known.setup) stream t ≡ pos (own_window known.setup) -ℤ pos (kept known.setup.passing stream t)
 
 -- What is kept isn't given back, nor is it in the step in which its stream ends: no stream has more room than at first, less what is kept
 -- for it.
-abbrev pub HoldsBack : Passing → List Entry → Type 0
-HoldsBack passing t = (stream : ℕ) → 0 < stream → room_on stream t ≤ℤ (pos first_window -ℤ pos (kept passing stream t))
+abbrev pub HoldsBack : ℕ → Passing → List Entry → Type 0
+HoldsBack own passing t = (stream : ℕ) → 0 < stream → room_on own stream t ≤ℤ (pos own -ℤ pos (kept passing stream t))
 
 -- Octets go back: there is less room than at first, but for what is kept, on the connection, or on an active stream that the client hasn't ended.
-abbrev pub GoesBack : Passing → List Entry → Type 0
-GoesBack passing t =
-    (room_on_connection t <ℤ (pos first_window -ℤ pos (kept_in_all passing t)))
+abbrev pub GoesBack : ℕ → Passing → List Entry → Type 0
+GoesBack own passing t =
+    (room_on_connection t <ℤ (pos own -ℤ pos (kept_in_all passing t)))
     ⊎ ((stream : ℕ) × (is_active stream t ≡ true) × (is_ended_by_client stream t ≡ false)
-    × (room_on stream t <ℤ (pos first_window -ℤ pos (kept passing stream t))))
+    × (room_on own stream t <ℤ (pos own -ℤ pos (kept passing stream t))))
 
 -- how many octets of DATA may come on an id; 0 is that of the connection
-abbrev pub room_of : ℕ → List Entry → ℤ
-room_of id t = if id == 0 then room_on_connection t else room_on id t
+abbrev pub room_of : ℕ → ℕ → List Entry → ℤ
+room_of own id t = if id == 0 then room_on_connection t else room_on own id t
 
 -- Nothing is given back that didn't come: behind each WINDOW_UPDATE there is no more room than at first.
-abbrev pub GivesNoMore : List Entry → Type 0
-GivesNoMore [] = Unit {0}
-GivesNoMore (Sent noted ∷ t) =
-    (noted.frame.kind ≡ window_update_kind → room_of noted.frame.id (Sent noted ∷ t) ≤ℤ pos first_window) × GivesNoMore t
-GivesNoMore (_ ∷ t) = GivesNoMore t
+abbrev pub GivesNoMore : ℕ → List Entry → Type 0
+GivesNoMore own [] = Unit {0}
+GivesNoMore own (Sent noted ∷ t) =
+    (noted.frame.kind ≡ window_update_kind → room_of own noted.frame.id (Sent noted ∷ t) ≤ℤ pos own) × GivesNoMore own t
+GivesNoMore own (_ ∷ t) = GivesNoMore own t
 
 pub record WindowsHold (known : Known) (t : List Entry) : Type 0 where
   pub keeps : KeepsWindows t
-  pub no_more : GivesNoMore t
-  pub holds_back : HoldsBack known.setup.passing t
+  pub no_more : GivesNoMore (own_window known.setup) t
+  pub holds_back : HoldsBack (own_window known.setup) known.setup.passing t
   pub gives_back : is_closed t ≡ false → GivesBack known t

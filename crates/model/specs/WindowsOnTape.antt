@@ -94,10 +94,15 @@ table_limit t = unwrap_or (last_value header_table_size (client_settings t)) fir
 
 -- ---- receiving
 
--- how many octets of DATA may come on a stream: as at first, and what was given back, without what came
-abbrev pub room_on : ℕ → List Entry → ℤ
-room_on stream t = sending_window first_window (increments stream (sent t)) (data_octets (is_on stream) (came t))
+-- what was given back on a stream, without what came
+abbrev pub back_on : ℕ → List Entry → ℤ
+back_on stream t = balance (increments stream (sent t)) (data_octets (is_on stream) (came t))
 
--- how many may come on the connection
+-- How many octets of DATA may come on a stream, where windows begin with so many: as at first, and what was given back, without what
+-- came. So it is from the first octet on: the gateway's settings are sent before any is read (section 6.9.2).
+abbrev pub room_on : ℕ → ℕ → List Entry → ℤ
+room_on own stream t = pos own +ℤ back_on stream t
+
+-- how many may come on the connection, whose window begins with 65,535, and which WINDOW_UPDATE alone makes larger (section 6.9.2)
 abbrev pub room_on_connection : List Entry → ℤ
 room_on_connection t = sending_window first_window (increments 0 (sent t)) (data_octets is_any (came t))

@@ -11,7 +11,7 @@ ghost use Rattle.model.specs.Setup.{Passing, Route, Matches, IsFirstMatch};
 ghost use Rattle.model.specs.Causes.{is_routed};
 ghost use Rattle.model.specs.Tapes.{Noted, Entry, came};
 ghost use Rattle.model.specs.Decoding.{completed};
-ghost use Rattle.model.specs.Lifetimes.{opens_by, opened, is_opened};
+ghost use Rattle.model.specs.Lifetimes.{is_drained, opens_by, opened, is_opened};
 ghost use Rattle.model.specs.Failures.{AreJudged};
 ghost use Rattle.model.specs.Known.{Known, with_failure};
 ghost use Rattle.model.specs.Courses.{course};
@@ -43,7 +43,7 @@ pub fn one_offer()
 
 /// A stream is opened once, and none has the id 0 (RFC 9113, section 5.1.1).
 pub fn opened_once()
-    ensures fresh { (t : List Entry) (noted : Noted) → opens_by (opened t) (completed (came t) noted.frame) noted.note ≡ true
+    ensures fresh { (t : List Entry) (noted : Noted) → opens_by (is_drained t) (opened t) (completed (came t) noted.frame) noted.note ≡ true
         → is_opened noted.frame.id t ≡ false }
     ensures not_zero { (t : List Entry) → is_opened 0 t ≡ false }
 {}

@@ -1,6 +1,6 @@
 //! What an entry more changes of what a tape leaves (RFC 9113, sections 5.1 and 5.4).
 
-ghost use Rattle.std.specs.Prelude.{◌≡◌, ℕ, true, false, ◌==◌, List, []};
+ghost use Rattle.std.specs.Prelude.{◌≡◌, ℕ, Bool, true, false, ◌==◌, List, []};
 ghost use Rattle.std.specs.List.{list_any};
 ghost use Rattle.model.specs.Logs.{Act};
 ghost use Rattle.model.specs.Tapes.{Noted, Entry};
@@ -17,5 +17,5 @@ pub fn silent_entries()
 
 /// A stream that was opened may not be opened again (RFC 9113, section 5.1.1).
 pub fn opened_for_good()
-    ensures { (opened : List ℕ) (id : ℕ) → list_any (λ other. other == id) opened ≡ true → may_open opened id ≡ false }
+    ensures { (drained : Bool) (opened : List ℕ) (id : ℕ) → list_any (λ other. other == id) opened ≡ true → may_open drained opened id ≡ false }
 {}

@@ -61,7 +61,7 @@ tape = segment ++ first.tape
 -- ---- what the client is sent
 
 abbrev before_answer : List Noted
-before_answer = record { frame = settings_ack; note = NoBlock } ∷ record { frame = settings_frame; note = NoBlock } ∷ []
+before_answer = record { frame = settings_ack; note = NoBlock } ∷ record { frame = settings_frame 0; note = NoBlock } ∷ []
 
 sent_before : Decodes before_answer first_table
 sent_before = (first_table, (first_table, refl, (refl, refl), refl), (refl, refl), refl)

@@ -24,7 +24,7 @@ known = record { setup = setup; failures = [] }
 
 -- the gateway's settings were sent
 abbrev pub greeted : List Entry
-greeted = Sent (record { frame = settings_frame; note = NoBlock }) ∷ []
+greeted = Sent (record { frame = settings_frame 0; note = NoBlock }) ∷ []
 
 -- the client's came and were acknowledged
 abbrev pub settled : List Entry

@@ -15,6 +15,7 @@ use Rattle.model.specs.Admission.{untaken, is_crowded}
 use Rattle.model.specs.Limits.{most_untaken, most_resets}
 use Rattle.model.specs.Lifetimes.{is_active, is_exhausted, resets_by_client}
 use Rattle.model.specs.ErrorTable.{row_settings, row_shift, row_connection_update, row_idle, row_resets, row_connection_data, rows_behind_block, row_malformed}
+use Rattle.model.specs.Setup.{own_window}
 use Rattle.model.specs.Known.{Known}
 use Rattle.model.specs.Courses.{about, carried, course, fault}
 use Rattle.model.specs.ErrorClause.{rst_stream, ping_ack, is_fatal, calls_for_end, controls, owed, ErrorsHold}
@@ -69,8 +70,8 @@ rows_before t e =
     ∷ row_idle t e
     ∷ []
 
-abbrev rows_later : List Entry → Entry → List (Option Fault)
-rows_later t e = row_connection_data t e ∷ rows_behind_block t e
+abbrev rows_later : ℕ → List Entry → Entry → List (Option Fault)
+rows_later own t e = row_connection_data t e ∷ rows_behind_block own t e
 
 -- rows that don't apply are passed over
 passed : (rows later : List (Option Fault)) → first_of rows ≡ None → first_of (rows ++ later) ≡ first_of later
@@ -90,14 +91,14 @@ goes_on_behind known t id code active count right on c =
     let e : Entry = Came (reset id code) in
     let malformed : Option Fault = row_malformed (carried (course known (about t e) t)) t e in
     let is : fault known t e ≡ Some (Connection enhance_your_calm) =
-    ap (λ (o : Option Fault). or_else o malformed) (passed (rows_before t e) (row_resets t e ∷ rows_later t e) right)
-    ∙ ap (λ (o : Option Fault). or_else (first_of (o ∷ rows_later t e)) malformed) (one_too_many t id code active count) in
+    ap (λ (o : Option Fault). or_else o malformed) (passed (rows_before t e) (row_resets t e ∷ rows_later (own_window known.setup) t e) right)
+    ∙ ap (λ (o : Option Fault). or_else (first_of (o ∷ rows_later (own_window known.setup) t e)) malformed) (one_too_many t id code active count) in
     let clash : false ≡ true = sym on ∙ c.closed ∙ ap (λ (o : Option Fault). is_fatal o || is_exhausted (e ∷ t)) is in
     cc
 
 -- the fault of an entry by all rows but this one
 abbrev other_fault : Known → List Entry → Entry → Option Fault
-other_fault known t e = or_else (first_of (rows_before t e ++ rows_later t e)) (row_malformed (carried (course known (about t e) t)) t e)
+other_fault known t e = or_else (first_of (rows_before t e ++ rows_later (own_window known.setup) t e)) (row_malformed (carried (course known (about t e) t)) t e)
 
 -- It ends the connection because of a reset of a stream that is over, however many came: where no other row is against it, and not too many octets are
 -- untaken, nothing calls for that.
@@ -108,8 +109,8 @@ closes_for_closed known t id code last closed mild room c =
     let e : Entry = Came (reset id code) in
     let malformed : Option Fault = row_malformed (carried (course known (about t e) t)) t e in
     let is : fault known t e ≡ other_fault known t e =
-    ap (λ (o : Option Fault). or_else (first_of (rows_before t e ++ o ∷ rows_later t e)) malformed) (counts_closed t id code closed).0
-    ∙ ap (λ (o : Option Fault). or_else o malformed) (left_out (rows_before t e) (rows_later t e)) in
+    ap (λ (o : Option Fault). or_else (first_of (rows_before t e ++ o ∷ rows_later (own_window known.setup) t e)) malformed) (counts_closed t id code closed).0
+    ∙ ap (λ (o : Option Fault). or_else o malformed) (left_out (rows_before t e) (rows_later (own_window known.setup) t e)) in
     let on : is_fatal (fault known t e) ≡ false = ap is_fatal is ∙ mild in
     let clash : true ≡ false = sym (c.calm.0.in_place (ap not on)).crowded ∙ room in
     cc
@@ -165,7 +166,7 @@ calms_early known t last room on c =
     let clash : true ≡ false = sym place.crowded ∙ room in cc
 
 -- It does so while too many octets are untaken, but nothing is owed and no octet goes back.
-pub calms_for_nothing : (known : Known) (t : List Entry) (last : ℕ) → calls_for_end known t ≡ false → owed known t ≡ controls (sent t) → (GoesBack known.setup.passing t → ⊥) → FloodsHold known (out (goaway last enhance_your_calm) ∷ t) → ⊥
+pub calms_for_nothing : (known : Known) (t : List Entry) (last : ℕ) → calls_for_end known t ≡ false → owed known t ≡ controls (sent t) → (GoesBack (own_window known.setup) known.setup.passing t → ⊥) → FloodsHold known (out (goaway last enhance_your_calm) ∷ t) → ⊥
 calms_for_nothing known t last on none kept c = by (c.0 (ap not on))
   where
     longer : (newer : List Frame) (next : Frame) (frames : List Frame) → frames ≡ newer ++ next ∷ frames → ⊥

@@ -4,7 +4,7 @@ use Rattle.model.specs.Frames.{spell, settings_frame, settings_ack, goaway, cont
 use Rattle.model.proofs.FramesFronts.{no_header}
 
 -- 00000c 04 00 00000000 0003 00000064 0006 00004000
-pub settings_spelling : spell settings_frame ≡ 0 ∷ 0 ∷ 12 ∷ 4 ∷ 0 ∷ 0 ∷ 0 ∷ 0 ∷ 0 ∷ 0 ∷ 3 ∷ 0 ∷ 0 ∷ 0 ∷ 100 ∷ 0 ∷ 6 ∷ 0 ∷ 0 ∷ 64 ∷ 0 ∷ []
+pub settings_spelling : spell (settings_frame 0) ≡ 0 ∷ 0 ∷ 12 ∷ 4 ∷ 0 ∷ 0 ∷ 0 ∷ 0 ∷ 0 ∷ 0 ∷ 3 ∷ 0 ∷ 0 ∷ 0 ∷ 100 ∷ 0 ∷ 6 ∷ 0 ∷ 0 ∷ 64 ∷ 0 ∷ []
 settings_spelling = refl
 
 -- 000000 04 01 00000000

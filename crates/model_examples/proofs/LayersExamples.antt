@@ -1,5 +1,5 @@
 -- Worked examples of settings, windows, payloads and states of streams, each by computation.
-use Rattle.std.proofs.Common.{◌≡◌, [], ◌∷◌, ◌++◌, Some, None, refl}
+use Rattle.std.proofs.Common.{false, ◌≡◌, [], ◌∷◌, ◌++◌, Some, None, refl}
 use Rattle.std.specs.Prelude.{ℕ, List, negsuc}
 use Rattle.model.specs.Frames.{setting, data_kind, headers_kind, rst_stream_kind, window_update_kind, protocol_error, stream_closed, refused_stream}
 use Rattle.model.specs.Errors.Fault.{Connection, Stream, Discarded}
@@ -80,7 +80,7 @@ six_streams =
     ∷ []
 
 abbrev pub verdict_on : ℕ → ℕ → Verdict
-verdict_on id kind = verdict (active_count six_streams) (standing six_streams id) kind
+verdict_on id kind = verdict (active_count six_streams) (standing false six_streams id) kind
 
 pub three_are_active : active_count six_streams ≡ 3
 three_are_active = refl

@@ -2,6 +2,7 @@ mod AnswerExamples
 mod BeginningExamples
 mod CauseExamples
 mod ChunkRefusals
+mod DrainExamples
 mod ErrorExamples
 mod FloodExamples
 mod FramesExamples
@@ -15,6 +16,7 @@ mod OfferRefusals
 mod Refusals
 mod RequestRefusals
 mod ResponseRefusals
+mod RoomExamples
 mod RowBlocks
 mod RowTapes
 mod SendingRefusals

@@ -84,7 +84,7 @@ replied_rightly = (refl, (refl, (refl, (refl, tt))))
 -- ---- the client goes at once
 
 abbrev gone : List Entry
-gone = Did CloseClient ∷ Happened ClientEnd ∷ out settings_frame ∷ []
+gone = Did CloseClient ∷ Happened ClientEnd ∷ out (settings_frame 0) ∷ []
 
 gone_owed : controls (sent gone) ≡ owed by_whole gone
 gone_owed = refl

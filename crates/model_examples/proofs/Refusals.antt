@@ -1,5 +1,5 @@
 -- Gateways that do wrong: tapes that they make, and the clause that each breaks.
-use Rattle.std.proofs.Common.{◌≡◌, ℕ, true, false, ◌&&◌, ◌==◌, nat_lt, if◌then◌else◌, List, [], ◌∷◌, ◌++◌, length, refl, sym, ap, ◌∙◌, inl, inr, arith}
+use Rattle.std.proofs.Common.{Bool, ◌≡◌, ℕ, true, false, ◌&&◌, ◌==◌, nat_lt, if◌then◌else◌, List, [], ◌∷◌, ◌++◌, length, refl, sym, ap, ◌∙◌, inl, inr, arith, not, ◌||◌}
 use Rattle.std.specs.Prelude.{Option, Some, None, pos, negsuc, nat_abs, ◌≤ℤ◌, codes, map}
 use Rattle.model.specs.Tables.{total_size, Table, field_of, look_up, static_table}
 use Rattle.model.specs.Frames.{Frame, settings_frame, goaway, no_error, stream_closed}
@@ -12,7 +12,7 @@ use Rattle.model.specs.Tapes.Entry.{Came, Breached, Happened, Sent, Did}
 use Rattle.model.specs.Known.{Known}
 use Rattle.model.specs.Causes.{Cause}
 use Rattle.model.specs.Limits.{most_streams}
-use Rattle.model.specs.Lifetimes.{opened, highest}
+use Rattle.model.specs.Lifetimes.{opened, highest, is_drained}
 use Rattle.model.specs.ErrorClause.{ErrorsHold, GoawaysComeFirst, last_goaway, rst_stream}
 use Rattle.model.specs.ProgressClause.{ProgressHolds, Reason, AllStreamed}
 use Rattle.model.specs.ProgressClause.Reason.{Over, Complete, Answered, ClientClosed}
@@ -29,7 +29,7 @@ use Rattle.model_examples.proofs.WindowExamples as windows
 pub silent : (known : Known) (t : List Entry) → sent t ≡ [] → ErrorsHold known t → ⊥
 silent known t e c = ends c.begins.0 (sym (ap (map (λ noted. noted.frame)) e) ∙ c.begins.1)
   where
-    ends : (newer : List Frame) → [] ≡ newer ++ settings_frame ∷ [] → ⊥
+    ends : (newer : List Frame) → [] ≡ newer ++ settings_frame known.setup.more_room ∷ [] → ⊥
     ends [] e = cc
     ends (f ∷ newer) e = cc
 
@@ -39,7 +39,7 @@ unfolding total_size
 leaves_at_once c = let clash : 3 ≡ 2 = ap length c.just_owed in omega (arith, clash)
 
 -- It doesn't acknowledge settings.
-pub not_acknowledged : ErrorsHold by_whole (plain (settings []) ∷ out settings_frame ∷ []) → ⊥
+pub not_acknowledged : ErrorsHold by_whole (plain (settings []) ∷ out (settings_frame 0) ∷ []) → ⊥
 unfolding total_size
 not_acknowledged c = let clash : 1 ≡ 2 = ap length c.just_owed in omega (arith, clash)
 
@@ -62,22 +62,28 @@ earlier (Happened event ∷ behind) t first = earlier behind t first
 earlier (Sent noted ∷ behind) t first = earlier behind t first
 earlier (Did act ∷ behind) t first = earlier behind t first.1
 
+or_true : (b : Bool) → (b || true) ≡ true
+or_true true = refl
+or_true false = refl
+
 -- the entry that opens the last stream calls for a GOAWAY
-last_calls : (t : List Entry) (e : Entry) → length (opened t) ≡ 9999 → length (opened (e ∷ t)) ≡ 10000 → last_goaway t e ≡ goaway (highest (e ∷ t)) no_error ∷ []
-last_calls t e before last =
-    ap (λ n. if nat_lt n most_streams && length (opened (e ∷ t)) == most_streams then goaway (highest (e ∷ t)) no_error ∷ [] else []) before
-    ∙ ap (λ n. if n == most_streams then goaway (highest (e ∷ t)) no_error ∷ [] else []) last
+last_calls : (t : List Entry) (e : Entry) → is_drained t ≡ false → length (opened t) ≡ 9999 → length (opened (e ∷ t)) ≡ 10000 → last_goaway t e ≡ goaway (highest (e ∷ t)) no_error ∷ []
+last_calls t e on before last =
+    ap (λ d. if not d && nat_lt (length (opened t)) most_streams && (is_drained (e ∷ t) || length (opened (e ∷ t)) == most_streams) then goaway (highest (e ∷ t)) no_error ∷ [] else []) on
+    ∙ ap (λ n. if nat_lt n most_streams && (is_drained (e ∷ t) || length (opened (e ∷ t)) == most_streams) then goaway (highest (e ∷ t)) no_error ∷ [] else []) before
+    ∙ ap (λ n. if is_drained (e ∷ t) || n == most_streams then goaway (highest (e ∷ t)) no_error ∷ [] else []) last
+    ∙ ap (λ b. if b then goaway (highest (e ∷ t)) no_error ∷ [] else []) (or_true (is_drained (e ∷ t)))
 
 -- It opens the connection of the last stream, or does anything else, before it says GOAWAY: whatever comes behind, that isn't first.
-pub acts_before_goaway : (known : Known) (behind t : List Entry) (e : Entry) (act : Act) → length (opened t) ≡ 9999 → length (opened (e ∷ t)) ≡ 10000 → ErrorsHold known (behind ++ Did act ∷ e ∷ t) → ⊥
-acts_before_goaway known behind t e act before last c =
+pub acts_before_goaway : (known : Known) (behind t : List Entry) (e : Entry) (act : Act) → is_drained t ≡ false → length (opened t) ≡ 9999 → length (opened (e ∷ t)) ≡ 10000 → ErrorsHold known (behind ++ Did act ∷ e ∷ t) → ⊥
+acts_before_goaway known behind t e act on before last c =
     let none : last_goaway t e ≡ [] = (earlier behind (Did act ∷ e ∷ t) c.goaway_first).0 in
-    let clash : goaway (highest (e ∷ t)) no_error ∷ [] ≡ [] = sym (last_calls t e before last) ∙ none in
+    let clash : goaway (highest (e ∷ t)) no_error ∷ [] ≡ [] = sym (last_calls t e on before last) ∙ none in
     cc
 
 -- Behind the GOAWAY it may.
 pub acts_behind_goaway : (t : List Entry) (e : Entry) (last : ℕ) (act : Act) → GoawaysComeFirst (e ∷ t) → GoawaysComeFirst (Did act ∷ out (goaway last no_error) ∷ e ∷ t)
-acts_behind_goaway t e last act first = (no_goaway (e ∷ t) (out (goaway last no_error)) refl, first)
+acts_behind_goaway t e last act first = (no_goaway (e ∷ t) (out (goaway last no_error)) refl refl, first)
 
 -- It leaves a response unreset whose upstream ended it in a chunk.
 pub unreset : ErrorsHold ended_streaming (Did (Close 1) ∷ Happened (UpEnd 1) ∷ in_chunk_streaming) → ⊥

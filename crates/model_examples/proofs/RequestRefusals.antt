@@ -18,6 +18,7 @@ use Rattle.model.specs.Errors.{Fault, first_of, or_else}
 use Rattle.model.specs.Errors.Fault.{Connection, Stream, Discarded}
 use Rattle.model.specs.Streams.{is_ended_by, is_reset, items_of}
 use Rattle.model.specs.Openings.{Opened}
+use Rattle.model.specs.Setup.{own_window}
 use Rattle.model.specs.Known.{Known}
 use Rattle.model.specs.Lifetimes.{active, standing_on}
 use Rattle.model.specs.Malformed.{Carried}
@@ -54,9 +55,9 @@ behind_rows (None ∷ before) behind f = behind_rows before behind f
 behind_rows (Some fault ∷ before) behind f = (fault, refl)
 
 -- A header block on such an id is a fault, whatever else is wrong: none, one of the connection, or nothing comes of it.
-is_fault : (kept : Carried) (t : List Entry) (noted : Noted) (block : Partial) → completed (came t) noted.frame ≡ Some block → standing_on t noted.frame.id ≡ Beyond → (found : Fault) × (fault_with kept t (Came noted) ≡ Some found)
-is_fault kept t noted block whole above =
-    let f = behind_rows (rows_before_block t (Came noted)) (rows_behind_block t (Came noted)) (behind (row_block t (Came noted))) in
+is_fault : (own : ℕ) (kept : Carried) (t : List Entry) (noted : Noted) (block : Partial) → completed (came t) noted.frame ≡ Some block → standing_on t noted.frame.id ≡ Beyond → (found : Fault) × (fault_with own kept t (Came noted) ≡ Some found)
+is_fault own kept t noted block whole above =
+    let f = behind_rows (rows_before_block t (Came noted)) (rows_behind_block own t (Came noted)) (behind (row_block t (Came noted))) in
     (f.0, ap (λ first. or_else first (row_malformed kept t (Came noted))) f.1)
   where
     closed : row_closed t (Came noted) ≡ Some Discarded
@@ -64,9 +65,9 @@ is_fault kept t noted block whole above =
         ap (λ p. unless_of_stream (fault_on t noted.frame.id (judged p noted.frame))) whole
         ∙ ap (λ s. unless_of_stream (fault_of (verdict (length (active t)) s headers_kind))) above
 
-    behind : (first : Option Fault) → (found : Fault) × (first_of (first ∷ row_closed t (Came noted) ∷ row_stream_update t (Came noted) ∷ row_stream_data t (Came noted) ∷ row_refused t (Came noted) ∷ row_no_goaway t (Came noted) ∷ []) ≡ Some found)
+    behind : (first : Option Fault) → (found : Fault) × (first_of (first ∷ row_closed t (Came noted) ∷ row_stream_update t (Came noted) ∷ row_stream_data own t (Came noted) ∷ row_refused t (Came noted) ∷ row_no_goaway t (Came noted) ∷ []) ≡ Some found)
     behind (Some fault) = (fault, refl)
-    behind None = (Discarded, ap (λ r. first_of (r ∷ row_stream_update t (Came noted) ∷ row_stream_data t (Came noted) ∷ row_refused t (Came noted) ∷ row_no_goaway t (Came noted) ∷ [])) closed)
+    behind None = (Discarded, ap (λ r. first_of (r ∷ row_stream_update t (Came noted) ∷ row_stream_data own t (Came noted) ∷ row_refused t (Came noted) ∷ row_no_goaway t (Came noted) ∷ [])) closed)
 
 -- any fault on a stream ends its items
 ends_items : (found : Fault) → is_ended_by true (Some found) ≡ true
@@ -85,9 +86,9 @@ either false i e = e
 pub above_last : (known : Known) (t : List Entry) (noted : Noted) (block : Partial) → completed (came t) noted.frame ≡ Some block → standing_on t noted.frame.id ≡ Beyond → items known noted.frame.id t ≡ [] → items known noted.frame.id (Came noted ∷ t) ≡ []
 above_last known t noted block whole above none =
     let before = course known noted.frame.id t in
-    let found = fault_with (carried before) t (Came noted) in
+    let found = fault_with (own_window known.setup) (carried before) t (Came noted) in
     let cause = new_cause known noted.frame.id t (Came noted) before found in
-    let f = is_fault (carried before) t noted block whole above in
+    let f = is_fault (own_window known.setup) (carried before) t noted block whole above in
     let ended : is_ended_by (noted.frame.id == noted.frame.id) found ≡ true = ap (λ b. is_ended_by b found) (same_id noted.frame.id) ∙ ap (is_ended_by true) f.1 ∙ ends_items f.0 in
     let stops : interrupts noted.frame.id (Came noted) found cause ≡ true = ap (λ b. b || is_reset noted.frame.id (Came noted) || is_some cause) ended in
     ap (λ b. if b then before.items else before.items ++ items_of noted.frame.id t (Came noted)) (either before.over (interrupts noted.frame.id (Came noted) found cause) stops) ∙ none

@@ -14,7 +14,7 @@ use Rattle.model.specs.Known.{Known}
 
 -- one route for every authority and path, and bodies of a megabyte
 abbrev pub whole : Setup
-whole = record { routes = record { authority = []; path = codes "/" } ∷ []; policy = Plain; passing = Whole; max_body = 1048576; max_response = 1048576; keep = false; most_idle = 8 }
+whole = record { routes = record { authority = []; path = codes "/" } ∷ []; policy = Plain; passing = Whole; max_body = 1048576; max_response = 1048576; keep = false; most_idle = 8; more_room = 0 }
 
 abbrev pub streaming : Setup
 streaming = record whole { passing = Streaming }
@@ -68,7 +68,7 @@ post_block = 131 ∷ 134 ∷ 132 ∷ 65 ∷ 15 ∷ codes "www.example.com"
 
 -- the gateway's settings, the client's, and their acknowledgement
 abbrev pub begun : List Entry
-begun = out settings_ack ∷ plain (frame 4 0 0 []) ∷ out settings_frame ∷ []
+begun = out settings_ack ∷ plain (frame 4 0 0 []) ∷ out (settings_frame 0) ∷ []
 
 -- the text of the GET
 abbrev pub get_text : List ℕ

@@ -18,7 +18,7 @@ use Rattle.model_examples.proofs.RowTapes.{by_whole, frame, plain, headed, out, 
 -- ---- a first size of 10, which is lowered to 3 when 10 octets were sent
 
 abbrev pub small : List Entry
-small = getting 1 1 (out settings_ack ∷ plain (settings (setting 4 10)) ∷ out settings_frame ∷ [])
+small = getting 1 1 (out settings_ack ∷ plain (settings (setting 4 10)) ∷ out (settings_frame 0) ∷ [])
 
 pub ten : stream_window 1 small ≡ pos 10
 unfolding total_size
@@ -97,7 +97,7 @@ given_back = out (update 1 5) ∷ out (update 0 5) ∷ declared_five
 pub shared_again : room_on_connection given_back ≡ pos 65535
 shared_again = refl
 
-pub own_again : room_on 1 given_back ≡ pos 65535
+pub own_again : room_on 65535 1 given_back ≡ pos 65535
 own_again = refl
 
 -- padding counts: the five octets of `02 hi 00 00`

@@ -11,6 +11,7 @@ use Rattle.model.specs.Available.{items_on}
 use Rattle.model.specs.Streams.{items_of}
 use Rattle.model.specs.ErrorTable.{fault_with}
 use Rattle.model.specs.Known.{Known}
+use Rattle.model.specs.Setup.{own_window}
 use Rattle.model.specs.Openings as openings
 use Rattle.model.specs.Openings.{Opened, exchanges_of}
 use Rattle.model.specs.Courses.{course, items, carried, interrupts, new_cause}
@@ -56,7 +57,7 @@ front_items : (known : Known) (stream : ℕ) (t : List Entry) → IsFrontOf (ite
 front_items known stream [] = record { more = []; is = refl; whole = λ _. refl }
 front_items known stream (e ∷ t) =
     let before = course known stream t in
-    let found = fault_with (carried before) t e in
+    let found = fault_with (own_window known.setup) (carried before) t e in
     let cause = new_cause known stream t e before found in
     let next = behind before.items (items_on stream (came t)) (items_of stream t e) before.over (interrupts stream e found cause) (front_items known stream t) in
     subst (λ (l : List Item). IsFrontOf (items known stream (e ∷ t)) l (course known stream (e ∷ t)).over) (sym (came_on stream t e)) next

@@ -2,7 +2,7 @@
 use Rattle.std.proofs.Common.{◌≡◌, ℕ, true, false, ◌&&◌, ◌==◌, List, [], ◌∷◌, ◌++◌, length, refl, sym, ap, ◌∙◌, subst, inl, inr, arith, ◌⊎◌, if◌then◌else◌}
 use Rattle.std.proofs.lemmas.Bool.{eq-eqb}
 use Rattle.std.proofs.lemmas.Bool.Decides.{eqb_tells}
-use Rattle.model.specs.Logs.Event.{Client, ClientEnd, ClientTook, Up, UpEnd, UpFailed, UpTook}
+use Rattle.model.specs.Logs.Event.{Client, ClientEnd, ClientTook, Up, UpEnd, UpFailed, UpTook, Drain}
 use Rattle.model.specs.Logs.Act.{Open, ToUp, Close, CloseClient}
 use Rattle.model.specs.Tapes.{Entry, sent_up}
 use Rattle.model.specs.Tapes.Entry.{Came, Breached, Happened, Sent, Did}
@@ -47,6 +47,7 @@ comes_before (Happened (Up k piece)) t c = c.1
 comes_before (Happened (UpEnd k)) t c = c.1
 comes_before (Happened (UpFailed k)) t c = c
 comes_before (Happened (UpTook k count)) t c = c
+comes_before (Happened Drain) t c = c
 comes_before (Sent noted) t c = c
 comes_before (Did act) t c = c
 
@@ -162,6 +163,7 @@ module _ (known : Known) where
   heard_there o (Happened (UpEnd k) ∷ t) s i = heard_there o t (before known (Happened (UpEnd k)) t s) i
   heard_there o (Happened (UpFailed k) ∷ t) s i = heard_there o t (before known (Happened (UpFailed k)) t s) i
   heard_there o (Happened (UpTook k count) ∷ t) s i = heard_there o t (before known (Happened (UpTook k count)) t s) i
+  heard_there o (Happened Drain ∷ t) s i = heard_there o t (before known (Happened Drain) t s) i
   heard_there o (Sent noted ∷ t) s i = heard_there o t (before known (Sent noted) t s) i
   heard_there o (Did act ∷ t) s i = heard_there o t (before known (Did act) t s) (there_before o (Did act) t s.numbered i)
 
@@ -186,6 +188,7 @@ module _ (known : Known) where
       ]
   ended_there o (Happened (UpFailed k) ∷ t) s i = ended_there o t (before known (Happened (UpFailed k)) t s) i
   ended_there o (Happened (UpTook k count) ∷ t) s i = ended_there o t (before known (Happened (UpTook k count)) t s) i
+  ended_there o (Happened Drain ∷ t) s i = ended_there o t (before known (Happened Drain) t s) i
   ended_there o (Sent noted ∷ t) s i = ended_there o t (before known (Sent noted) t s) i
   ended_there o (Did act ∷ t) s i = ended_there o t (before known (Did act) t s) (there_before o (Did act) t s.numbered i)
 

@@ -2,7 +2,7 @@
 use Rattle.std.proofs.Common.{◌≡◌, ℕ, not, ◌&&◌, ◌||◌, ◌==◌, List, [], ◌∷◌, ◌++◌, refl, sym, ap, ◌∙◌, subst, if◌then◌else◌}
 use Rattle.std.specs.Prelude.{Option, Some, None, nat_lt, reverse}
 use Rattle.model.specs.Frames.{Frame}
-use Rattle.model.specs.Logs.Event.{Client, ClientEnd, ClientTook, Up, UpEnd, UpFailed, UpTook}
+use Rattle.model.specs.Logs.Event.{Client, ClientEnd, ClientTook, Up, UpEnd, UpFailed, UpTook, Drain}
 use Rattle.model.specs.Tapes.{Noted, Entry, sent}
 use Rattle.model.specs.Tapes.Entry.{Came, Breached, Happened, Sent, Did}
 use Rattle.model.specs.Errors.{Fault}
@@ -10,6 +10,7 @@ use Rattle.model.specs.Errors.Fault.{Connection, Stream, Discarded}
 use Rattle.model.specs.Streams.{items_of}
 use Rattle.model.specs.Openings.{given}
 use Rattle.model.specs.Available.{items_on}
+use Rattle.model.specs.Setup.{own_window}
 use Rattle.model.specs.Known.{Known}
 use Rattle.model.specs.Causes.{Cause}
 use Rattle.model.specs.ErrorTable.{fault_with}
@@ -32,7 +33,7 @@ module _ (known : Known) where
 
   next_is : (stream : ℕ) (t : List Entry) (e : Entry) (c : Course) → about_once t e ≡ about t e → next_course_once known stream t e c ≡ next_course known stream t e c
   next_is stream t e c same =
-      let found = fault_with (carried c) t e in
+      let found = fault_with (own_window known.setup) (carried c) t e in
       let causes : new_cause_once known stream t e c found ≡ new_cause known stream t e c found =
       ap (λ (id : ℕ). if id == stream && nat_lt 0 stream then cause_at known c t e found else None) same in
       ap (λ (x : Option Cause). course_behind c (interrupts stream e found x) (items_of stream t e) x (items_on stream (sent t))) causes
@@ -45,8 +46,8 @@ module _ (known : Known) where
 
   pub fault_is : (t : List Entry) (e : Entry) → Stands known t → fault_once known t e ≡ fault known t e
   fault_is t e s =
-      ap (λ (id : ℕ). fault_with (carried (course_once known id t)) t e) (about_is t e s)
-      ∙ ap (λ (c : Course). fault_with (carried c) t e) (course_is (about t e) t s)
+      ap (λ (id : ℕ). fault_with (own_window known.setup) (carried (course_once known id t)) t e) (about_is t e s)
+      ∙ ap (λ (c : Course). fault_with (own_window known.setup) (carried c) t e) (course_is (about t e) t s)
 
   -- ---- what is owed
 
@@ -82,6 +83,7 @@ module _ (known : Known) where
   calls_is (Happened (UpEnd k) ∷ t) s = refl
   calls_is (Happened (UpFailed k) ∷ t) s = refl
   calls_is (Happened (UpTook k count) ∷ t) s = refl
+  calls_is (Happened Drain ∷ t) s = refl
   calls_is (Sent noted ∷ t) s = ap (λ b. is_calming noted.frame || b) (calls_is t (before known (Sent noted) t s))
   calls_is (Did act ∷ t) s = calls_is t (before known (Did act) t s)
 

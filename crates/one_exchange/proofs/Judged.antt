@@ -3,7 +3,7 @@ use Rattle.std.proofs.Common.{◌≡◌, ℕ, Bool, true, false, not, List, [], 
 use Rattle.std.specs.Prelude.{nat_le, ◌-◌}
 use Rattle.std.proofs.lemmas.Bool.{and_parts}
 use Rattle.model.specs.Logs.{Event}
-use Rattle.model.specs.Logs.Event.{Client, ClientEnd, ClientTook, Up, UpEnd, UpFailed, UpTook}
+use Rattle.model.specs.Logs.Event.{Client, ClientEnd, ClientTook, Up, UpEnd, UpFailed, UpTook, Drain}
 use Rattle.model.specs.Setup.{Passing}
 use Rattle.model.specs.Setup.Passing.{Whole, Streaming}
 use Rattle.model.specs.Tapes.{Entry, sent, is_closed}
@@ -66,6 +66,7 @@ module _ (known : Known) (t : List Entry) (s : Stands known t) where
   fits_once (UpEnd k) may h = tt
   fits_once (UpFailed k) may h = tt
   fits_once (UpTook k count) may h = tt
+  fits_once Drain may h = tt
 
   pub admitted_once : (event : Event) → IsAdmitted known t event → IsAdmittedOnce known t event
   admitted_once event a = record { in_order = a.in_order; fits = fits_once event a.in_order a.fits }
@@ -90,6 +91,7 @@ module _ (known : Known) (t : List Entry) where
   may_once ClientEnd s h = absurd h
   may_once (ClientTook count) s h = absurd h
   may_once (UpTook k count) s h = absurd h
+  may_once Drain s h = absurd h
 
   must_now : (event : Event) → Stands known (Happened event ∷ t) → MustFailOnce known t event → MustFail known t event
   must_now (Up k piece) s h =
@@ -101,6 +103,7 @@ module _ (known : Known) (t : List Entry) where
   must_now ClientEnd s h = absurd h
   must_now (ClientTook count) s h = absurd h
   must_now (UpTook k count) s h = absurd h
+  must_now Drain s h = absurd h
 
   judged_once : (event : Event) (fails : Bool) → Stands known (Happened event ∷ t) → IsJudged known t event fails → IsJudgedOnce known t event fails
   judged_once event true s h = may_once event s h

@@ -1,7 +1,7 @@
 -- All clauses, and the headline, are as before.
 use Rattle.std.proofs.Common.{◌≡◌, ℕ, true, false, List, [], ◌∷◌, ◌++◌, refl, sym, ap, ◌∙◌, subst, reverse}
 use Rattle.model.specs.Logs.{Event, Step, client_in}
-use Rattle.model.specs.Logs.Event.{Client, ClientEnd, ClientTook, Up, UpEnd, UpFailed, UpTook}
+use Rattle.model.specs.Logs.Event.{Client, ClientEnd, ClientTook, Up, UpEnd, UpFailed, UpTook, Drain}
 use Rattle.model.specs.Setup.{Setup}
 use Rattle.model.specs.Tapes.{Entry, acts, happened, listed, ActsFollow}
 use Rattle.model.specs.Tapes.Entry.{Came, Breached, Happened, Sent, Did}
@@ -64,6 +64,7 @@ event_comes ClientEnd segment t may a h c = quiet_come segment t h c
 event_comes (ClientTook count) segment t may a h c = quiet_come segment t h c
 event_comes (UpFailed k) segment t may a h c = quiet_come segment t h c
 event_comes (UpTook k count) segment t may a h c = quiet_come segment t h c
+event_comes Drain segment t may a h c = quiet_come segment t h c
 
 -- the one event of a list
 one_event : (event found : Event) (more : List Event) → found ∷ more ≡ event ∷ [] → (found ≡ event) × (more ≡ [])
@@ -77,6 +78,7 @@ listed_one (Up k piece) found more e = one_event (Up k piece) found more e
 listed_one (UpEnd k) found more e = one_event (UpEnd k) found more e
 listed_one (UpFailed k) found more e = one_event (UpFailed k) found more e
 listed_one (UpTook k count) found more e = one_event (UpTook k count) found more e
+listed_one Drain found more e = one_event Drain found more e
 
 step_comes : (event : Event) (segment t : List Entry) → is_admitted t event ≡ true → happened segment ≡ listed event → ActsFollow segment → ComeOfOpen t → ComeOfOpen (segment ++ t)
 step_comes event [] t may h a c = c

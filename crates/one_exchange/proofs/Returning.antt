@@ -1,11 +1,10 @@
 -- What is kept of windows is the same, and so is where a GOAWAY may stand in place of another frame.
 use Rattle.std.proofs.Common.{◌≡◌, ℕ, List, [], ◌∷◌, refl, sym, ap, ◌∙◌, subst, inl, inr}
 use Rattle.std.specs.Prelude.{pos, ◌-ℤ◌, ◌≤ℤ◌, ◌<ℤ◌, sum_by}
-use Rattle.model.specs.Setup.{Passing}
+use Rattle.model.specs.Setup.{Passing, own_window}
 use Rattle.model.specs.Setup.Passing.{Whole, Streaming}
 use Rattle.model.specs.Tapes.{Entry}
 use Rattle.model.specs.Tapes.Entry.{Came, Breached, Happened, Sent, Did}
-use Rattle.model.specs.Limits.{first_window}
 use Rattle.model.specs.Openings.{Opened, exchange_for, connection_of, route_of}
 use Rattle.model.specs.Known.{Known}
 use Rattle.model.specs.Lifetimes.{active}
@@ -35,8 +34,8 @@ module _ (known : Known) (t : List Entry) (s : Stands known t) where
 
   gives_back : GivesBack known t → GivesBackOnce known t
   gives_back h = record {
-    shared = h.shared ∙ ap (λ (n : ℕ). pos first_window -ℤ pos n) (kept_in_all_is known.setup.passing);
-    own = λ stream active not_ended. h.own stream active not_ended ∙ ap (λ (n : ℕ). pos first_window -ℤ pos n) (kept_is known.setup.passing stream);
+    shared = h.shared ∙ ap (λ (n : ℕ). pos (own_window known.setup) -ℤ pos n) (kept_in_all_is known.setup.passing);
+    own = λ stream active not_ended. h.own stream active not_ended ∙ ap (λ (n : ℕ). pos (own_window known.setup) -ℤ pos n) (kept_is known.setup.passing stream);
   }
 
   pub windows_hold : WindowsHold known t → WindowsHoldOnce known t
@@ -44,13 +43,13 @@ module _ (known : Known) (t : List Entry) (s : Stands known t) where
     keeps = h.keeps;
     no_more = h.no_more;
     holds_back = λ stream above.
-        let same = kept_is known.setup.passing stream in subst (λ (n : ℕ). room_on stream t ≤ℤ (pos first_window -ℤ pos n)) same (h.holds_back stream above);
+        let same = kept_is known.setup.passing stream in subst (λ (n : ℕ). room_on (own_window known.setup) stream t ≤ℤ (pos (own_window known.setup) -ℤ pos n)) same (h.holds_back stream above);
     gives_back = λ not_closed. gives_back (h.gives_back not_closed);
   }
 
-  goes_back : (passing : Passing) → GoesBack passing t → GoesBackOnce passing t
-  goes_back passing (inl shared) = inl (subst (λ (n : ℕ). room_on_connection t <ℤ (pos first_window -ℤ pos n)) (kept_in_all_is passing) shared)
-  goes_back passing (inr own) = inr (own.0, own.1, own.2, subst (λ (n : ℕ). room_on own.0 t <ℤ (pos first_window -ℤ pos n)) (kept_is passing own.0) own.3)
+  goes_back : (passing : Passing) → GoesBack (own_window known.setup) passing t → GoesBackOnce (own_window known.setup) passing t
+  goes_back passing (inl shared) = inl (subst (λ (n : ℕ). room_on_connection t <ℤ (pos (own_window known.setup) -ℤ pos n)) (kept_in_all_is passing) shared)
+  goes_back passing (inr own) = inr (own.0, own.1, own.2, subst (λ (n : ℕ). room_on (own_window known.setup) own.0 t <ℤ (pos (own_window known.setup) -ℤ pos n)) (kept_is passing own.0) own.3)
 
   would_return : WouldReturn known t → WouldReturnOnce known t
   would_return w = record {

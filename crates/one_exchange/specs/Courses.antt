@@ -7,6 +7,7 @@ use Rattle.model.specs.Errors.{Fault}
 use Rattle.model.specs.Streams.{items_of}
 use Rattle.model.specs.Openings.{opens, given}
 use Rattle.model.specs.Available.{items_on}
+use Rattle.model.specs.Setup.{own_window}
 use Rattle.model.specs.Known.{Known}
 use Rattle.model.specs.Causes.{Cause}
 use Rattle.model.specs.ErrorTable.{fault_with}
@@ -25,7 +26,7 @@ new_cause_once known stream t e course found =
 
 abbrev pub next_course_once : Known → ℕ → List Entry → Entry → Course → Course
 next_course_once known stream t e course =
-    let found = fault_with (carried course) t e in
+    let found = fault_with (own_window known.setup) (carried course) t e in
     let cause = new_cause_once known stream t e course found in
     course_behind course (interrupts stream e found cause) (items_of stream t e) cause (items_on stream (sent t))
 
@@ -44,4 +45,4 @@ cause_once known stream t = (course_once known stream t).cause
 
 -- the fault of an entry behind a tape
 abbrev pub fault_once : Known → List Entry → Entry → Option Fault
-fault_once known t e = fault_with (carried (course_once known (about_once t e) t)) t e
+fault_once known t e = fault_with (own_window known.setup) (carried (course_once known (about_once t e) t)) t e

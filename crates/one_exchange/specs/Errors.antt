@@ -47,7 +47,7 @@ stands_in_once known t noted = is_calming noted.frame && not (calls_for_end_once
 
 -- what all entries call for, the newest first
 abbrev pub owed_once : Known → List Entry → List Frame
-owed_once known [] = settings_frame ∷ []
+owed_once known [] = settings_frame known.setup.more_room ∷ []
 owed_once known (Came noted ∷ t) = reverse (owed_by_once known t (Came noted)) ++ owed_once known t
 owed_once known (Breached breach ∷ t) = reverse (owed_by_once known t (Breached breach)) ++ owed_once known t
 owed_once known (Happened event ∷ t) = reverse (owed_by_once known t (Happened event)) ++ owed_once known t
@@ -87,7 +87,7 @@ EndsInTimeOnce known (e ∷ t) = (must_end_once known t ≡ false) × EndsInTime
 
 -- The clause: just what is owed was sent, in its order, and the client is closed just where the connection is to end.
 pub record ErrorsHoldOnce (known : Known) (t : List Entry) : Type 0 where
-  pub begins : (newer : List Frame) × (map (λ noted. noted.frame) (sent t) ≡ newer ++ settings_frame ∷ [])
+  pub begins : (newer : List Frame) × (map (λ noted. noted.frame) (sent t) ≡ newer ++ settings_frame known.setup.more_room ∷ [])
   pub just_owed : controls (sent t) ≡ owed_once known t
   pub followed : AreFollowedOnce known [] t
   pub goaway_first : GoawaysComeFirst t

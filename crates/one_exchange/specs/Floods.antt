@@ -3,6 +3,7 @@ use Rattle.std.specs.Prelude.{◌≡◌, true, List, [], ◌∷◌, ◌++◌}
 use Rattle.model.specs.Frames.{Frame}
 use Rattle.model.specs.Tapes.{Entry, sent}
 use Rattle.model.specs.Tapes.Entry.{Sent}
+use Rattle.model.specs.Setup.{own_window}
 use Rattle.model.specs.Known.{Known}
 use Rattle.model.specs.ErrorClause.{controls}
 use Rattle.one_exchange.specs.Errors.{owed_once, stands_in_once}
@@ -15,7 +16,7 @@ pub record WouldReturnOnce (known : Known) (t : List Entry) : Type 0 where
   pub just_owed : owed_once known t ≡ unpaid ++ controls (sent t)
   pub forwarded : AllForwardedOnce known t
   pub streamed : AllStreamedOnce known t
-  pub goes_back : GoesBackOnce known.setup.passing t
+  pub goes_back : GoesBackOnce (own_window known.setup) known.setup.passing t
 
 -- A frame would go: one that is owed beyond what was sent, or one with which octets are given back.
 pub data WouldGoOnce (known : Known) (t : List Entry) : Type 0 where

@@ -1,9 +1,8 @@
 -- The clause on windows, where each connection carries one exchange: octets of DATA are kept by what the stream's connection was sent.
 use Rattle.std.specs.Prelude.{◌≡◌, ℕ, ◌<◌, true, false, ◌⊎◌, List, pos, ◌-ℤ◌, ◌≤ℤ◌, ◌<ℤ◌, sum_by}
-use Rattle.model.specs.Setup.{Passing}
+use Rattle.model.specs.Setup.{Passing, own_window}
 use Rattle.model.specs.Setup.Passing.{Whole, Streaming}
 use Rattle.model.specs.Tapes.{Entry, is_closed}
-use Rattle.model.specs.Limits.{first_window}
 use Rattle.model.specs.Known.{Known}
 use Rattle.model.specs.Lifetimes.{active, is_active, is_ended_by_client}
 use Rattle.model.specs.WindowsOnTape.{room_on, room_on_connection}
@@ -21,24 +20,24 @@ kept_in_all_once passing t = sum_by (λ stream. kept_once passing stream t) (act
 
 -- Each receiving window is as at first, but for what is kept.
 pub record GivesBackOnce (known : Known) (t : List Entry) : Type 0 where
-  pub shared : room_on_connection t ≡ pos first_window -ℤ pos (kept_in_all_once known.setup.passing t)
+  pub shared : room_on_connection t ≡ pos (own_window known.setup) -ℤ pos (kept_in_all_once known.setup.passing t)
   pub own : (stream : ℕ) → is_active stream t ≡ true → is_ended_by_client stream t ≡ false
-      → room_on stream t ≡ pos first_window -ℤ pos (kept_once known.setup.passing stream t)
+      → room_on (own_window known.setup) stream t ≡ pos (own_window known.setup) -ℤ pos (kept_once known.setup.passing stream t)
 
 -- No stream has more room than at first, less what is kept for it.
-abbrev pub HoldsBackOnce : Passing → List Entry → Type 0
-HoldsBackOnce passing t = (stream : ℕ) → 0 < stream → room_on stream t ≤ℤ (pos first_window -ℤ pos (kept_once passing stream t))
+abbrev pub HoldsBackOnce : ℕ → Passing → List Entry → Type 0
+HoldsBackOnce own passing t = (stream : ℕ) → 0 < stream → room_on own stream t ≤ℤ (pos own -ℤ pos (kept_once passing stream t))
 
 -- Octets go back: there is less room than at first, but for what is kept.
-abbrev pub GoesBackOnce : Passing → List Entry → Type 0
-GoesBackOnce passing t =
-    (room_on_connection t <ℤ (pos first_window -ℤ pos (kept_in_all_once passing t)))
+abbrev pub GoesBackOnce : ℕ → Passing → List Entry → Type 0
+GoesBackOnce own passing t =
+    (room_on_connection t <ℤ (pos own -ℤ pos (kept_in_all_once passing t)))
     ⊎ ((stream : ℕ) × (is_active stream t ≡ true) × (is_ended_by_client stream t ≡ false)
-    × (room_on stream t <ℤ (pos first_window -ℤ pos (kept_once passing stream t))))
+    × (room_on own stream t <ℤ (pos own -ℤ pos (kept_once passing stream t))))
 
 -- The clause: DATA goes out within both windows, and octets that came are given back once they are passed on.
 pub record WindowsHoldOnce (known : Known) (t : List Entry) : Type 0 where
   pub keeps : KeepsWindows t
-  pub no_more : GivesNoMore t
-  pub holds_back : HoldsBackOnce known.setup.passing t
+  pub no_more : GivesNoMore (own_window known.setup) t
+  pub holds_back : HoldsBackOnce (own_window known.setup) known.setup.passing t
   pub gives_back : is_closed t ≡ false → GivesBackOnce known t

@@ -38,6 +38,7 @@ fn assert_default(rt: &impl Abort, config: &Config) {
     assert_eq!(rt; config.max_response, 1_048_576);
     assert!(rt; !config.keep);
     assert_eq!(rt; config.idle, 8);
+    assert_eq!(rt; config.window, 65_535);
 }
 
 #[test]
@@ -86,6 +87,33 @@ fn idle_connections(rt: HostRuntime) -> Result<(), Fail> {
     // It is judged right behind `keep`, and before the routes.
     assert_bad(&rt, rt.alloc(), "idle = 101\nkeep = 1", Key::Keep);
     assert_bad(&rt, rt.alloc(), "route = 1\nidle = 101", Key::Idle);
+    Ok(())
+}
+
+#[test]
+fn receiving_windows(rt: HostRuntime) -> Result<(), Fail> {
+    for (text, window) in [
+        ("window = 65535", 65_535),
+        ("window = 65_536", 65_536),
+        ("window = 1_048_576", 1_048_576),
+    ] {
+        assert_eq!(rt; taken(&rt, rt.alloc(), text).window, window);
+    }
+    for text in [
+        "window = -1",
+        "window = 0",
+        "window = 65534",
+        "window = 1_048_577",
+        "window = 4_295_032_831",
+        "window = 65535.0",
+        "window = \"65535\"",
+        "window = true",
+    ] {
+        assert_bad(&rt, rt.alloc(), text, Key::Window);
+    }
+    // It is judged right behind `idle`, and before the routes.
+    assert_bad(&rt, rt.alloc(), "window = 0\nidle = 101", Key::Idle);
+    assert_bad(&rt, rt.alloc(), "route = 1\nwindow = 0", Key::Window);
     Ok(())
 }
 

@@ -390,6 +390,7 @@ fn show(text: &mut String, event: &Event) -> Result<(), AllocError> {
         Event::UpEnd(k) => show_number(text, "UE", u64::from(*k)),
         Event::UpFailed(k) => show_number(text, "UF", u64::from(*k)),
         Event::UpTook(k, count) => write!(text, "UT {k} {count};"),
+        Event::Drain => text.push_str("D;"),
     }
 }
 
@@ -405,9 +406,9 @@ fn shown(alloc: Global, events: &[Event]) -> Result<String, AllocError> {
 #[test]
 fn reads_scripts(rt: HostRuntime) -> Result<(), Fail> {
     let alloc = rt.alloc();
-    let script = "C 00fF\nC \nCE\nCT 007\nU 1 6869\nU 2 \nUE 3\nUF 4\nUT 5 999999999";
+    let script = "C 00fF\nC \nCE\nCT 007\nU 1 6869\nU 2 \nUE 3\nUF 4\nUT 5 999999999\nD";
     let events = read_script(alloc, script).map_err(|_| "a script")?;
-    let lines = "C 00ff;C ;CE;CT 7;U 1 6869;U 2 ;UE 3;UF 4;UT 5 999999999;";
+    let lines = "C 00ff;C ;CE;CT 7;U 1 6869;U 2 ;UE 3;UF 4;UT 5 999999999;D;";
     assert_eq!(rt; shown(alloc, &events)?.as_str(), lines);
     let ended = read_script(alloc, "CE\n").map_err(|_| "a script")?;
     assert_eq!(rt; shown(alloc, &ended)?.as_str(), "CE;");
@@ -449,6 +450,9 @@ fn refuses_lines(rt: HostRuntime) -> Result<(), Fail> {
         "UT 1 ",
         "UT 1 2 3",
         "CE\r",
+        "D ",
+        "D 1",
+        "d",
         "X 1",
     ];
     for line in wrong {

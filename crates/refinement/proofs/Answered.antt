@@ -58,9 +58,9 @@ absent_above id (other ∷ ids) all =
     apart true e less = absurd (let same : other ≡ id = eqb-true other id e in let no : nat_lt id id ≡ true = ap (λ n. nat_lt n id) (sym same) ∙ less in let is : id < id = ltb-true id id no in omega (arith, is))
 
 -- nothing was said of it
-pub idle_unended : (rows : List Row) (id : ℕ) → may_open (ids_of rows) id ≡ true → (find rows id).ended_by_client ≡ false
-idle_unended rows id may =
-    let parts = and_parts (id % 2 == 1 && list_all (λ other. nat_lt other id) (ids_of rows)) (nat_lt (length (ids_of rows)) most_streams) may in
+pub idle_unended : (drained : Bool) (rows : List Row) (id : ℕ) → may_open drained (ids_of rows) id ≡ true → (find rows id).ended_by_client ≡ false
+idle_unended drained rows id may =
+    let parts = and_parts (id % 2 == 1 && list_all (λ other. nat_lt other id) (ids_of rows)) (not drained && nat_lt (length (ids_of rows)) most_streams) may in
     let above = and_parts (id % 2 == 1) (list_all (λ other. nat_lt other id) (ids_of rows)) parts.0 in
     ap (λ (k : Kept). k.ended_by_client) (find_none rows id (absent_above id (ids_of rows) above.1))
 
@@ -130,7 +130,7 @@ module _ (setup : Setup) (book : Book) (frame : Frame) (plain : IsPlain frame) w
       content_added : GoesOn told frame.id → Adds setup told (noted_of frame) (Content octets.now ends)
       content_added goes_on = record {
         adds = all_borne setup told (noted_of frame) goes_on.not_over taken.faultless (ap (λ k. k == rst_stream_kind) kind) (no_new (find book.rows frame.id).outline.cause (caused setup told (noted_of frame)) goes_on.no_cause taken.says.3) ∙ brought;
-        goes_on = unended_with_data told (noted_of frame) few taken.faultless (idle_unended book.rows frame.id) none kind (data_of_stream told (noted_of frame) few taken.faultless (idle_unended book.rows frame.id) kind);
+        goes_on = unended_with_data told (noted_of frame) few taken.faultless (idle_unended book.drained book.rows frame.id) none kind (data_of_stream told (noted_of frame) few taken.faultless (idle_unended book.drained book.rows frame.id) kind);
       }
   plain_addition few new judged.LargeBody taken =
       none_replied setup told (noted_of frame) Cause.LargeBody (the_new (find book.rows frame.id).outline.cause (caused setup told (noted_of frame)) Cause.LargeBody taken.says.1 taken.says.2)
@@ -141,7 +141,7 @@ module _ (setup : Setup) (book : Book) (frame : Frame) (plain : IsPlain frame) w
 
   -- it opens no stream
   no_more_opened : last_goaway_in told (Came (noted_of frame)) ≡ []
-  no_more_opened = no_goaway setup told (noted_of frame) (ap (λ (b : Option Partial). opens_by told.opened b NoBlock) (completes_none book.block frame plain))
+  no_more_opened = no_goaway setup told (noted_of frame) (ap (λ (b : Option Partial). opens_by told.drained told.opened b NoBlock) (completes_none book.block frame plain))
 
   -- what it calls for where it has no fault
   faultless_owes : fault_in told (Came (noted_of frame)) ≡ None → (xs ys : List Frame) → acks (Came (noted_of frame)) None ≡ xs → resets_in setup false told (Came (noted_of frame)) ≡ ys → owes_in setup false told (Came (noted_of frame)) ≡ xs ++ ys
@@ -233,13 +233,13 @@ module _ (setup : Setup) (book : Book) (noted : Noted) (of : IsOfBlock noted.fra
     of_stream = on_stream (noted.frame.id == 0) refl
       where
         passes : fault_on_in told_then noted.frame.id (Some headers_kind) ≡ None
-        passes = ap (λ (b : Option Partial). fault_on_in told_then noted.frame.id (judged_as b noted.frame)) (sym is_block) ∙ stands told_then noted few faultless (idle_unended book.rows noted.frame.id)
+        passes = ap (λ (b : Option Partial). fault_on_in told_then noted.frame.id (judged_as b noted.frame)) (sym is_block) ∙ stands told_then noted few faultless (idle_unended book.drained book.rows noted.frame.id)
 
         on_stream : (b : Bool) → (noted.frame.id == 0) ≡ b → (noted.frame.id == 0) ≡ false
         on_stream false e = e
         on_stream true e =
             let wrong : fault_on_in told_then noted.frame.id (Some headers_kind) ≡ Some (Connection protocol_error) =
-            ap (λ b. fault_of (verdict (length (active_in told_then)) (if b then WholeConnection else opened_or (state_of noted.frame.id (streams_in told_then)) (unopened (is_above noted.frame.id (streams_in told_then)) (length (streams_in told_then) == most_streams) noted.frame.id)) headers_kind)) e in
+            ap (λ b. fault_of (verdict (length (active_in told_then)) (if b then WholeConnection else opened_or (state_of noted.frame.id (streams_in told_then)) (unopened (is_above noted.frame.id (streams_in told_then)) (told_then.drained || length (streams_in told_then) == most_streams) noted.frame.id)) headers_kind)) e in
             absurd (let no : None ≡ Some (Connection protocol_error) = sym passes ∙ wrong in cc)
 
     -- the cause that the frame is for its stream is that of its block
@@ -261,7 +261,7 @@ module _ (setup : Setup) (book : Book) (noted : Noted) (of : IsOfBlock noted.fra
     adds_block : (find book.rows noted.frame.id).outline.over ≡ false → cause_of_block setup (carried_in (find book.rows noted.frame.id).outline) (Fields fields) ≡ None → Adds setup told_then noted (Block fields completed.ends)
     adds_block goes_on none = record {
       adds = all_borne setup told_then noted goes_on faultless not_reset (caused_by ∙ none) ∙ item;
-      goes_on = unended_with_block told_then noted few faultless (idle_unended book.rows noted.frame.id) completed is_block;
+      goes_on = unended_with_block told_then noted few faultless (idle_unended book.drained book.rows noted.frame.id) completed is_block;
     }
 
     pub head_none : (outline : Outline) → outline.begun ≡ false → cause_of_head setup fields ≡ None → cause_of_block setup (carried_in outline) (Fields fields) ≡ None
@@ -298,7 +298,7 @@ module _ (setup : Setup) (book : Book) (noted : Noted) (of : IsOfBlock noted.fra
   pub part_owes : fault_in told_then (Came noted) ≡ None → completed_in book.block noted.frame ≡ None → owes_in setup false told_then (Came noted) ≡ []
   part_owes faultless none =
       block_owes faultless [] (none_reset setup told_then noted (idle_no_cause setup told_then noted faultless (ap (λ (b : Option Partial). is_some b || noted.frame.kind == data_kind) none ∙ not_data)))
-      ∙ ap (λ (xs : List Frame). xs ++ []) (no_goaway setup told_then noted (ap (λ (b : Option Partial). opens_by told_then.opened b noted.note) none))
+      ∙ ap (λ (xs : List Frame). xs ++ []) (no_goaway setup told_then noted (ap (λ (b : Option Partial). opens_by told_then.drained told_then.opened b noted.note) none))
 
   -- what one with a fault that isn't of the connection calls for, and that it gains nothing
   pub block_owes_at_fault : (fault : Fault) → is_fatal (Some fault) ≡ false → fault_in told_then (Came noted) ≡ Some fault → owes_in setup false told_then (Came noted) ≡ last_goaway_in told_then (Came noted) ++ owed_at_fault noted.frame.id fault

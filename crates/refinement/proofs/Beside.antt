@@ -66,7 +66,7 @@ module _ (setup : Setup) (book : Book) (noted : Noted) (mild : is_fatal (fault_i
 
   -- A frame that is no error of the connection leaves what is told of every other stream.
   pub others_stay : (other : ℕ) → (noted.frame.id == other) ≡ false → SameOf book (book_after setup false book (Came noted)) other
-  others_stay other apart = by (opens_by (ids_of book.rows) (completed_in book.block noted.frame) noted.note)
+  others_stay other apart = by (opens_by book.drained (ids_of book.rows) (completed_in book.block noted.frame) noted.note)
     where
       opened : Row
       opened = row_opened setup false (summary_in book) (Came noted) noted.frame.id

@@ -77,8 +77,10 @@ inbound_in table book = record {
   block = book.block;
   continuations = book.continuations;
   first_size = book.first_size;
+  own = book.own;
   window = book.window;
   room = book.room;
+  drained = book.drained;
   rows = book.rows;
   resets = book.resets;
   last = book.last;
@@ -142,16 +144,16 @@ module _ (setup : Setup) (b : Book) (noted : Noted) (mild : is_fatal (fault_in (
 
   -- a stream that was opened before is found as the frame leaves it
   found_now : has b.rows noted.frame.id ≡ true → rows.find now noted.frame.id ≡ kept_in (slot_of (kept_behind setup false (summary_in b) (Came noted) noted.frame.id (rows.find b.rows noted.frame.id)))
-  found_now there = by (opens_by (ids_of b.rows) (completed_in b.block noted.frame) noted.note) refl
+  found_now there = by (opens_by b.drained (ids_of b.rows) (completed_in b.block noted.frame) noted.note) refl
     where
       changed : List Row
       changed = map (row_behind setup false (summary_in b) (Came noted)) b.rows
 
-      by : (x : Bool) → opens_by (ids_of b.rows) (completed_in b.block noted.frame) noted.note ≡ x
+      by : (x : Bool) → opens_by b.drained (ids_of b.rows) (completed_in b.block noted.frame) noted.note ≡ x
           → rows.find (if x then rows.row_opened setup false (summary_in b) (Came noted) noted.frame.id ∷ changed else changed) noted.frame.id ≡ kept_in (slot_of (kept_behind setup false (summary_in b) (Came noted) noted.frame.id (rows.find b.rows noted.frame.id)))
       by false is = find_changed setup false (summary_in b) (Came noted) b.rows noted.frame.id there
       by true is =
-          absurd (let no : false ≡ true = sym (not_opened (ids_of b.rows) noted.frame.id (opens_own (ids_of b.rows) b.block noted.frame noted.note is)) ∙ there in cc)
+          absurd (let no : false ≡ true = sym (not_opened b.drained (ids_of b.rows) noted.frame.id (opens_own b.drained (ids_of b.rows) b.block noted.frame noted.note is)) ∙ there in cc)
 
   -- Octets go back behind the frame on streams on which they did before, but for one that it opens.
   pub goes_back : (id : ℕ) → is_active now id ≡ true → (rows.find now id).ended_by_client ≡ false → ((noted.frame.id == id) && newly) ≡ false → (is_active b.rows id ≡ true) × ((rows.find b.rows id).ended_by_client ≡ false)

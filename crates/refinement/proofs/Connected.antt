@@ -53,7 +53,7 @@ none_connected id (o ∷ os) none = ap (λ b. if b then o.k else connection_of i
 -- nothing waits behind a mark that is reached
 pub none_reached : (setup : Setup) (run : List Move) (kept : View) (pending : Pending) (s : State) → Leads setup run kept pending s → NoneReached (rooms_in (told_by s) s)
 none_reached setup run kept pending s leads =
-    subst NoneReached (moved_here setup run s leads.stands leads.so) (telling.ahead setup.passing (moves_of (windows_of setup run)) (windows_allowed setup run s leads.stands leads.so))
+    subst NoneReached (moved_here setup run s leads.stands leads.so) (telling.ahead setup.more_room setup.passing (moves_of (windows_of setup run)) (windows_allowed setup run s leads.stands leads.so))
 
 module _ (setup : Setup) (run : List Move) (kept : View) (pending : Pending) (s : State) (leads : Leads setup run kept pending s) (k : ℕ) (c : Connection) (found : find number_of k kept.upstreams.live ≡ Some c) where
   abbrev t : List Entry
@@ -83,8 +83,8 @@ module _ (setup : Setup) (run : List Move) (kept : View) (pending : Pending) (s 
 
   row_connection : (id : ℕ) → is_live rooms id ≡ true → (rooms.row id).k ≡ connection_of id (exchanges t)
   row_connection id on =
-      let receives : Receiving setup.passing t rooms = windows_here setup run s leads.stands leads.so in
-      (receives.keeping.streams id (sym (live_among setup.passing t rooms id receives.keeping) ∙ on)).connection
+      let receives : Receiving setup.more_room setup.passing t rooms = windows_here setup run s leads.stands leads.so in
+      (receives.keeping.streams id (sym (live_among setup.more_room setup.passing t rooms id receives.keeping) ∙ on)).connection
 
   -- The row of its stream has its number, while that is active; rows of streams that it was given to before may have it, too.
   pub its_row : is_live rooms stream ≡ true → (rooms.row stream).k ≡ k

@@ -60,11 +60,11 @@ module _ (setup : Setup) (fails : Bool) (s : Summary) (e : Entry) (rows : List R
 
 -- so behind any entry
 pub behind_rows : (setup : Setup) (fails : Bool) (s : Summary) (e : Entry) (rows : List Row) → s.opened ≡ ids_of rows → (id : ℕ) → Goes_on setup fails s e rows id (rows_after setup fails s e rows)
-behind_rows setup fails s (Came noted) rows opened id = by (opens_by s.opened (completed_in s.block noted.frame) noted.note) refl
+behind_rows setup fails s (Came noted) rows opened id = by (opens_by s.drained s.opened (completed_in s.block noted.frame) noted.note) refl
   where
-    own : opens_by s.opened (completed_in s.block noted.frame) noted.note ≡ true → noted.frame.id ≡ id → find rows id ≡ fresh
+    own : opens_by s.drained s.opened (completed_in s.block noted.frame) noted.note ≡ true → noted.frame.id ≡ id → find rows id ≡ fresh
     own opens same =
-        find_none rows id (not_opened (ids_of rows) id (ap (λ (ids : List ℕ). may_open ids id) (sym opened) ∙ ap (λ n. may_open s.opened n) (sym same) ∙ opens_own s.opened s.block noted.frame noted.note opens))
+        find_none rows id (not_opened s.drained (ids_of rows) id (ap (λ (ids : List ℕ). may_open s.drained ids id) (sym opened) ∙ ap (λ n. may_open s.drained s.opened n) (sym same) ∙ opens_own s.drained s.opened s.block noted.frame noted.note opens))
 
     front : Row
     front = row_opened setup fails s (Came noted) noted.frame.id
@@ -72,7 +72,7 @@ behind_rows setup fails s (Came noted) rows opened id = by (opens_by s.opened (c
     rest : List Row
     rest = map (row_behind setup fails s (Came noted)) rows
 
-    new : opens_by s.opened (completed_in s.block noted.frame) noted.note ≡ true → Goes_on setup fails s (Came noted) rows id (front ∷ rest)
+    new : opens_by s.drained s.opened (completed_in s.block noted.frame) noted.note ≡ true → Goes_on setup fails s (Came noted) rows id (front ∷ rest)
     new opens = elim (eqb_tells noted.frame.id id) [
       | inl same ↦ opened_row same
       | inr apart ↦ subst (λ b. ((if b then kept_in front.slot else find rest id) ≡ kept_behind setup fails s (Came noted) id (find rows id)) ⊎ IsGone (if b then kept_in front.slot else find rest id)) (sym apart.0) (in_rows setup fails s (Came noted) rows id)
@@ -86,7 +86,7 @@ behind_rows setup fails s (Came noted) rows opened id = by (opens_by s.opened (c
               | inr none ↦ inr (subst IsGone (sym here) none)
             ]
 
-    by : (b : Bool) → opens_by s.opened (completed_in s.block noted.frame) noted.note ≡ b → Goes_on setup fails s (Came noted) rows id (if b then front ∷ rest else rest)
+    by : (b : Bool) → opens_by s.drained s.opened (completed_in s.block noted.frame) noted.note ≡ b → Goes_on setup fails s (Came noted) rows id (if b then front ∷ rest else rest)
     by true is = new is
     by false is = in_rows setup fails s (Came noted) rows id
 behind_rows setup fails s (Breached breach) rows opened id = in_rows setup fails s (Breached breach) rows id

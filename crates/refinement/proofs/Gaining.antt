@@ -83,9 +83,9 @@ first_none : (a b : Option Fault) → or_else a b ≡ None → a ≡ None
 first_none None b e = refl
 first_none (Some fault) b e = e
 
-module _ (s : Summary) (id : ℕ) (kind : ℕ) (content : is_content kind ≡ true) (idle : may_open s.opened id ≡ true → (s.stream id).ended_by_client ≡ false) where
+module _ (s : Summary) (id : ℕ) (kind : ℕ) (content : is_content kind ≡ true) (idle : may_open s.drained s.opened id ≡ true → (s.stream id).ended_by_client ≡ false) where
   -- on a stream that a standing allows it on
-  unended_at : (n : ℕ) (found : Standing) → (kind ≡ headers_kind) ⊎ ((id == 0) ≡ false) × (kind ≡ data_kind) → Tells s.stream s.opened id found → fault_of (verdict n found kind) ≡ None → (s.stream id).ended_by_client ≡ false
+  unended_at : (n : ℕ) (found : Standing) → (kind ≡ headers_kind) ⊎ ((id == 0) ≡ false) × (kind ≡ data_kind) → Tells s.drained s.stream s.opened id found → fault_of (verdict n found kind) ≡ None → (s.stream id).ended_by_client ≡ false
   unended_at n (Opened state) of tells passes =
       unended_by kind content (s.stream id).reset_by_gateway (s.stream id).reset_by_client (s.stream id).ended_by_client (s.stream id).ended_by_gateway (ap (λ (x : StreamState). fault_of (opened_verdict x kind)) (sym tells.1) ∙ passes)
   unended_at n Idle of tells passes = idle tells
@@ -96,15 +96,15 @@ module _ (s : Summary) (id : ℕ) (kind : ℕ) (content : is_content kind ≡ tr
   unended_at n Skipped (inr is) tells passes = absurd (let no = ap (λ k. fault_of (verdict n Skipped k)) (sym is.1) ∙ passes in cc)
   unended_at n Beyond of tells passes = absurd (cc)
 
-module _ (s : Summary) (noted : Noted) (few : length s.opened ≤ most_streams) (faultless : fault_in s (Came noted) ≡ None) (idle : may_open s.opened noted.frame.id ≡ true → (s.stream noted.frame.id).ended_by_client ≡ false) where
+module _ (s : Summary) (noted : Noted) (few : length s.opened ≤ most_streams) (faultless : fault_in s (Came noted) ≡ None) (idle : may_open s.drained s.opened noted.frame.id ≡ true → (s.stream noted.frame.id).ended_by_client ≡ false) where
   pub no_row : first_of (rows_in s noted) ≡ None
   no_row = first_none (first_of (rows_in s noted)) (malformed_in (s.stream noted.frame.id).outline s (Came noted)) faultless
 
   pub stands : fault_by_standing_in s noted.frame ≡ None
   stands = none_at 16 (rows_in s noted) no_row
 
-  tells : Tells s.stream s.opened noted.frame.id (standing_in s noted.frame.id)
-  tells = standing_tells s.stream s.opened noted.frame.id few
+  tells : Tells s.drained s.stream s.opened noted.frame.id (standing_in s noted.frame.id)
+  tells = standing_tells s.drained s.stream s.opened noted.frame.id few
 
   -- A frame without a fault that completes a header block is on a stream that the client hadn't ended.
   pub unended_with_block : (block : Partial) → completed_in s.block noted.frame ≡ Some block → (s.stream noted.frame.id).ended_by_client ≡ false

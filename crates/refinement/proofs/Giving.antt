@@ -118,7 +118,7 @@ module _ (setup : Setup) (run : List Move) (s : State) (stand : Stands setup run
     };
   }
     where
-      rooms : Receiving setup.passing t (rooms_in (told_by s) s)
+      rooms : Receiving setup.more_room setup.passing t (rooms_in (told_by s) s)
       rooms = windows_here setup run s stand so
 
       active_there : is_active (told_by s).last t ≡ true

@@ -9,7 +9,7 @@ use Rattle.model.specs.Messages.Item.{Block}
 use Rattle.model.specs.Malformed.{is_begun}
 use Rattle.model.specs.Setup.{Setup}
 use Rattle.model.specs.Logs.{Act}
-use Rattle.model.specs.Logs.Event.{Client, ClientEnd, ClientTook, Up, UpEnd, UpFailed, UpTook}
+use Rattle.model.specs.Logs.Event.{Client, ClientEnd, ClientTook, Up, UpEnd, UpFailed, UpTook, Drain}
 use Rattle.model.specs.Logs.Act.{Open, ToUp, Close, CloseClient}
 use Rattle.model.specs.Tapes.{Noted, Entry}
 use Rattle.model.specs.Tapes.Entry.{Came, Breached, Happened, Sent, Did}
@@ -415,6 +415,7 @@ module _ (setup : Setup) (book : Book) (r : theory_requests.State) (before : All
   done (Fails (Up k piece) stream heard) served additions may open_yet = kept_all true (Happened (Up k piece)) served (λ id. refl) _ r.count
   done (Fails (UpEnd k) stream heard) served additions may open_yet = kept_all true (Happened (UpEnd k)) served (λ id. refl) _ r.count
   done (Fails (UpTook k count) stream heard) served additions may open_yet = kept_all true (Happened (UpTook k count)) served (λ id. refl) _ r.count
+  done (Fails Drain stream heard) served additions may open_yet = kept_all true (Happened Drain) served (λ id. refl) _ r.count
   done (Idles (Client piece)) served additions may open_yet = same_left (Happened (Client piece)) (λ id. refl) may.0.nothing
   done (Idles ClientEnd) served additions may open_yet = same_left (Happened ClientEnd) (λ id. refl) may.0.nothing
   done (Idles (ClientTook count)) served additions may open_yet = same_left (Happened (ClientTook count)) (λ id. refl) may.0.nothing
@@ -423,6 +424,7 @@ module _ (setup : Setup) (book : Book) (r : theory_requests.State) (before : All
   done (Idles (UpEnd k)) served additions may open_yet = kept_all false (Happened (UpEnd k)) served (λ id. refl) _ r.count
   done (Idles (UpFailed k)) served additions may open_yet = kept_dropped false (Happened (UpFailed k)) served (λ id. refl) may.0.nothing k _ r.count
   done (Idles (UpTook k count)) served additions may open_yet = same_left (Happened (UpTook k count)) (λ id. refl) may.0.nothing
+  done (Idles Drain) served additions may open_yet = same_left (Happened Drain) (λ id. refl) may.0.nothing
   done (Sends noted next) served additions may open_yet = kept_all false (Sent noted) served (λ id. refl) r.live r.count
   done (Goes noted item part next) served additions may open_yet = kept_all false (Sent noted) served (λ id. refl) r.live r.count
   done (Acts (Open k route)) served additions may open_yet = opened_one k route may

@@ -7,7 +7,7 @@ use Rattle.model.specs.Messages.{Item}
 use Rattle.model.specs.Logs.{Event}
 use Rattle.model.specs.Logs.Event.{Up, UpEnd, UpFailed}
 use Rattle.model.specs.Limits.{longest_section}
-use Rattle.model.specs.Setup.{Passing}
+use Rattle.model.specs.Setup.{Passing, own_window}
 use Rattle.model.specs.Setup.Passing.{Whole}
 use Rattle.model.specs.Tapes.{Entry}
 use Rattle.model.specs.Tapes.Entry.{Happened}
@@ -53,7 +53,7 @@ same_or_more false xs = append-nil xs
 pub items_behind_event : (known : Known) (t : List Entry) (event : Event) (stream : ℕ) → items known stream (Happened event ∷ t) ≡ items known stream t
 items_behind_event known t event stream =
     let before = course known stream t in
-    let found = fault_with (carried before) t (Happened event) in
+    let found = fault_with (own_window known.setup) (carried before) t (Happened event) in
     same_or_more (before.over || interrupts stream (Happened event) found (new_cause known stream t (Happened event) before found)) before.items
 
 -- the end of a connection ends its newest exchange

@@ -3,7 +3,7 @@
 use Rattle.std.proofs.Common.{◌≡◌, ℕ, suc, ◌≤◌, true, false, if◌then◌else◌, List, [], ◌∷◌, map, length, Option, Some, refl, sym, ◌∙◌, ap, subst}
 use Rattle.std.specs.Prelude.{is_some, ◌&&◌, nat_le}
 use Rattle.model.specs.Logs.{Event, Output}
-use Rattle.model.specs.Logs.Event.{Client, ClientEnd, ClientTook, Up, UpEnd, UpFailed, UpTook}
+use Rattle.model.specs.Logs.Event.{Client, ClientEnd, ClientTook, Up, UpEnd, UpFailed, UpTook, Drain}
 use Rattle.model.specs.Setup.{Setup}
 use Rattle.model.specs.Tapes.Entry.{Happened}
 use Rattle.model.specs.Openings.{Opened, given}
@@ -56,6 +56,7 @@ of_upstream (Client piece) may = absurd may
 of_upstream ClientEnd may = absurd may
 of_upstream (ClientTook count) may = absurd may
 of_upstream (UpTook k count) may = absurd may
+of_upstream Drain may = absurd may
 
 -- of octets that wait they change nothing
 quiet : (event : Event) → MayBreakOff event → (x : theory_receive_windows.State) → theory_receive_windows.with_event x event ≡ record x { settled = false }
@@ -66,6 +67,7 @@ quiet (Client piece) may x = absurd may
 quiet ClientEnd may x = absurd may
 quiet (ClientTook count) may x = absurd may
 quiet (UpTook k count) may x = absurd may
+quiet Drain may x = absurd may
 
 -- One that is found now was among these, with the same counts.
 pub record IsCounted (live : List Connection) (j : ℕ) (now : Connection) : Type 0 where

@@ -3,7 +3,7 @@ use Rattle.std.proofs.Common.{◌≡◌, ℕ, ◌+◌, ◌<◌, ◌≤◌, Bool,
 use Rattle.std.proofs.lemmas.Bool.{ne_eqb, lt-ltb}
 use Rattle.std.proofs.lemmas.Bool.Decides.{eqb_tells}
 use Rattle.model.specs.Logs.{Event}
-use Rattle.model.specs.Logs.Event.{Client, ClientEnd, ClientTook, Up, UpEnd, UpFailed, UpTook}
+use Rattle.model.specs.Logs.Event.{Client, ClientEnd, ClientTook, Up, UpEnd, UpFailed, UpTook, Drain}
 use Rattle.model.specs.Setup.{Setup}
 use Rattle.model.specs.Tapes.{Entry}
 use Rattle.model.specs.Responses.{IsComplete}
@@ -79,6 +79,7 @@ idles_told known t (Client piece) of idle = absurd of
 idles_told known t ClientEnd of idle = absurd of
 idles_told known t (ClientTook count) of idle = absurd of
 idles_told known t (UpTook k count) of idle = absurd of
+idles_told known t Drain of idle = absurd of
 
 module _ (setup : Setup) (run : List Move) (s : State) (stand : Stands setup run s) (so : AreSo setup run) (k : ℕ) (line : Line) (found : line_of k s.requests.live ≡ Some line) (is_idle : line.answer ≡ Idle) where
   -- The connection is idle, whatever is known.

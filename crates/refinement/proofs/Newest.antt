@@ -4,7 +4,7 @@ use Rattle.std.proofs.Common.{◌≡◌, ℕ, ◌<◌, Bool, true, false, not, �
 use Rattle.std.specs.Prelude.{nat_lt}
 use Rattle.std.specs.List.{list_any, list_all}
 use Rattle.std.proofs.lemmas.Bool.{and_parts, ltb-true, eqb-true, eq-eqb, ne_eqb}
-use Rattle.model.specs.Logs.Event.{Client, ClientEnd, ClientTook, Up, UpEnd, UpFailed, UpTook}
+use Rattle.model.specs.Logs.Event.{Client, ClientEnd, ClientTook, Up, UpEnd, UpFailed, UpTook, Drain}
 use Rattle.model.specs.Logs.Act.{Open, ToUp, Close, CloseClient}
 use Rattle.model.specs.Messages.{Item}
 use Rattle.model.specs.Messages.Item.{Block}
@@ -97,23 +97,23 @@ module _ (setup : Setup) (fails : Bool) (s : Summary) (e : Entry) where
   rows_stay (row ∷ rows) all = (slot_stays row.id row.slot all.0, rows_stay rows all.1)
 
 -- a frame that opens a stream brings it an item
-brings_one : (opened : List ℕ) (block : Option Partial) (noted : Noted) → opens_by opened block noted.note ≡ true → is_begun (frame_items block noted) ≡ true
-brings_one opened None noted is = let no : false ≡ true = is in cc
-brings_one opened (Some block) noted is = by noted.note is
+brings_one : (drained : Bool) (opened : List ℕ) (block : Option Partial) (noted : Noted) → opens_by drained opened block noted.note ≡ true → is_begun (frame_items block noted) ≡ true
+brings_one drained opened None noted is = let no : false ≡ true = is in cc
+brings_one drained opened (Some block) noted is = by noted.note is
   where
-    by : (note : Note) → opens_by opened (Some block) note ≡ true → is_begun (frame_items (Some block) (record noted { note = note })) ≡ true
+    by : (note : Note) → opens_by drained opened (Some block) note ≡ true → is_begun (frame_items (Some block) (record noted { note = note })) ≡ true
     by NoBlock is = let no : false ≡ true = is in cc
     by (Fields fields) is = refl
     by Undecodable is = let no : false ≡ true = is in cc
     by Unread is = let no : false ≡ true = is in cc
 
 begun_behind : (setup : Setup) (fails : Bool) (book : Book) (e : Entry) → AllBegun book.rows → AllBegun (book_after setup fails book e).rows
-begun_behind setup fails book (Came noted) all = by (opens_by (ids_of book.rows) (completed_in book.block noted.frame) noted.note) refl
+begun_behind setup fails book (Came noted) all = by (opens_by book.drained (ids_of book.rows) (completed_in book.block noted.frame) noted.note) refl
   where
-    new : opens_by (ids_of book.rows) (completed_in book.block noted.frame) noted.note ≡ true → is_begun (items_in noted.frame.id (summary_in book) (Came noted)) ≡ true
-    new is = ap (λ b. is_begun (if b then frame_items (completed_in book.block noted.frame) noted else [])) (eq-eqb noted.frame.id noted.frame.id refl) ∙ brings_one (ids_of book.rows) (completed_in book.block noted.frame) noted is
+    new : opens_by book.drained (ids_of book.rows) (completed_in book.block noted.frame) noted.note ≡ true → is_begun (items_in noted.frame.id (summary_in book) (Came noted)) ≡ true
+    new is = ap (λ b. is_begun (if b then frame_items (completed_in book.block noted.frame) noted else [])) (eq-eqb noted.frame.id noted.frame.id refl) ∙ brings_one book.drained (ids_of book.rows) (completed_in book.block noted.frame) noted is
 
-    by : (b : Bool) → opens_by (ids_of book.rows) (completed_in book.block noted.frame) noted.note ≡ b
+    by : (b : Bool) → opens_by book.drained (ids_of book.rows) (completed_in book.block noted.frame) noted.note ≡ b
         → AllBegun (if b then row_opened setup fails (summary_in book) (Came noted) noted.frame.id ∷ map (row_behind setup fails (summary_in book) (Came noted)) book.rows else map (row_behind setup fails (summary_in book) (Came noted)) book.rows)
     by true is = (slot_begun (kept_behind setup fails (summary_in book) (Came noted) noted.frame.id fresh) (first _ _ _ (new is)), rows_stay setup fails (summary_in book) (Came noted) book.rows all)
     by false is = rows_stay setup fails (summary_in book) (Came noted) book.rows all
@@ -173,16 +173,16 @@ not_there setup book noted item all adds = by (has book.rows noted.frame.id) ref
 
 -- so it is the newest
 newest_now : (setup : Setup) (book : Book) (noted : Noted) → has book.rows noted.frame.id ≡ false → has (book_after setup false book (Came noted)).rows noted.frame.id ≡ true → IsNewest (book_after setup false book (Came noted)).rows noted.frame.id
-newest_now setup book noted new there = by (map (row_behind setup false (summary_in book) (Came noted)) book.rows) same (row_opened setup false (summary_in book) (Came noted) noted.frame.id).slot (opens_by (ids_of book.rows) (completed_in book.block noted.frame) noted.note) refl there
+newest_now setup book noted new there = by (map (row_behind setup false (summary_in book) (Came noted)) book.rows) same (row_opened setup false (summary_in book) (Came noted) noted.frame.id).slot (opens_by book.drained (ids_of book.rows) (completed_in book.block noted.frame) noted.note) refl there
   where
     same : (other : ℕ) → has (map (row_behind setup false (summary_in book) (Came noted)) book.rows) other ≡ has book.rows other
     same other = ap (λ (ids : List ℕ). list_any (λ n. n == other) ids) (ids_changed setup false (summary_in book) (Came noted) book.rows)
 
-    by : (changed : List Row) → ((other : ℕ) → has changed other ≡ has book.rows other) → (slot : Slot) (b : Bool) → opens_by (ids_of book.rows) (completed_in book.block noted.frame) noted.note ≡ b
+    by : (changed : List Row) → ((other : ℕ) → has changed other ≡ has book.rows other) → (slot : Slot) (b : Bool) → opens_by book.drained (ids_of book.rows) (completed_in book.block noted.frame) noted.note ≡ b
         → has (if b then record { id = noted.frame.id; slot = slot } ∷ changed else changed) noted.frame.id ≡ true → IsNewest (if b then record { id = noted.frame.id; slot = slot } ∷ changed else changed) noted.frame.id
     by changed same slot false is there = absurd (let no : true ≡ false = sym there ∙ same noted.frame.id ∙ new in let clash : true ≡ false = no in cc)
     by changed same slot true is there = λ other among apart.
-        let may = opens_own (ids_of book.rows) book.block noted.frame noted.note is in
+        let may = opens_own book.drained (ids_of book.rows) book.block noted.frame noted.note is in
         let above = and_parts _ (list_all (λ n. nat_lt n noted.frame.id) (ids_of book.rows)) (and_parts _ _ may).0 in
         one_below (ids_of book.rows) other noted.frame.id
         (sym (same other) ∙ sym (ap (λ b. b || has changed other) (ne_eqb noted.frame.id other (λ same_id. apart (sym same_id)))) ∙ among) above.1
@@ -281,6 +281,7 @@ module _ (known : Known) (streaming : known.setup.passing ≡ Streaming) (run : 
   done (Fails (Up k piece) stream heard) knows answered allowed on was = none_newest _ r.due allowed.1.request.may.0.nothing
   done (Fails (UpEnd k) stream heard) knows answered allowed on was = none_newest _ r.due allowed.1.request.may.0.nothing
   done (Fails (UpTook k count) stream heard) knows answered allowed on was = none_newest _ r.due allowed.1.request.may.0.nothing
+  done (Fails Drain stream heard) knows answered allowed on was = none_newest _ r.due allowed.1.request.may.0.nothing
   done (Idles (Client piece)) knows answered allowed on was = none_newest _ r.due allowed.1.request.may.0.nothing
   done (Idles ClientEnd) knows answered allowed on was = none_newest _ r.due allowed.1.request.may.0.nothing
   done (Idles (ClientTook count)) knows answered allowed on was = none_newest _ r.due allowed.1.request.may.0.nothing
@@ -289,6 +290,7 @@ module _ (known : Known) (streaming : known.setup.passing ≡ Streaming) (run : 
   done (Idles (UpEnd k)) knows answered allowed on was = none_newest _ r.due allowed.1.request.may.0.nothing
   done (Idles (UpFailed k)) knows answered allowed on was = none_newest _ r.due allowed.1.request.may.0.nothing
   done (Idles (UpTook k count)) knows answered allowed on was = none_newest _ r.due allowed.1.request.may.0.nothing
+  done (Idles Drain) knows answered allowed on was = none_newest _ r.due allowed.1.request.may.0.nothing
   done (Sends noted next) knows answered allowed on was = still_newest noted r.due was
   done (Goes noted item part next) knows answered allowed on was = still_newest noted r.due was
   done (Acts (Open k route)) knows answered allowed on was = let may = allowed.1.request.may in subst (λ (due : Due). DueNewest (book_behind (Acts (Open k route))).rows (theory_requests.due_opened due k)) (sym may.due) tt

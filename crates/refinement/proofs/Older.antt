@@ -55,7 +55,7 @@ module _ (setup : Setup) (run : List Move) (kept : View) (pending : Pending) (s 
   abbrev known : Known
   known = own setup run s leads.stands leads.so
 
-  receives : Receiving setup.passing t rooms
+  receives : Receiving setup.more_room setup.passing t rooms
   receives = windows_here setup run s leads.stands leads.so
 
   right : IsRightOf known t (sight_in (told_by s))
@@ -65,7 +65,7 @@ module _ (setup : Setup) (run : List Move) (kept : View) (pending : Pending) (s 
   row = leads.marked.stand.rows id side found
 
   active : is_active id t ≡ true
-  active = sym (live_among setup.passing t rooms id receives.keeping) ∙ leads.marked.stand.live id side found
+  active = sym (live_among setup.more_room setup.passing t rooms id receives.keeping) ∙ leads.marked.stand.live id side found
 
   has : connection_of id (exchanges t) ≡ side.k
   has = sym (receives.keeping.streams id active).connection ∙ row.k

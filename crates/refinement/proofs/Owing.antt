@@ -1,12 +1,12 @@
 -- What frames of the client call for, by the answers of the judgement.
-use Rattle.std.proofs.Common.{◌≡◌, ℕ, ◌<◌, Bool, true, false, ◌&&◌, ◌==◌, nat_lt, if◌then◌else◌, List, [], ◌∷◌, ◌++◌, append-nil, length, Option, Some, None, refl, ◌∙◌, ap, arith}
-use Rattle.std.proofs.lemmas.Bool.{eqb-true, ltb-true}
+use Rattle.std.proofs.Common.{◌≡◌, ℕ, Bool, true, false, not, ◌&&◌, ◌||◌, ◌==◌, nat_lt, if◌then◌else◌, List, [], ◌∷◌, ◌++◌, append-nil, length, Option, Some, None, refl, ◌∙◌, ap}
 use Rattle.std.specs.Prelude.{is_some}
 use Rattle.model.specs.Frames.{Frame, goaway, no_error}
 use Rattle.model.specs.Setup.{Setup}
 use Rattle.model.specs.Tapes.{Noted}
 use Rattle.model.specs.Tapes.Entry.{Came}
 use Rattle.model.specs.Limits.{most_streams}
+use Rattle.model.proofs.OwedSteps.{neither_full}
 use Rattle.model.specs.Lifetimes.{opens_by}
 use Rattle.model.specs.Errors.{Fault}
 use Rattle.model.specs.Errors.Fault.{Connection, Stream, Discarded}
@@ -20,15 +20,6 @@ use Rattle.theory_errors.proofs.Wanted.{bears}
 use Rattle.theory_errors.proofs.Seen.{idle_cause}
 use Rattle.refinement.specs.Owed.{reset_behind, owed_at_fault}
 use Rattle.refinement.proofs.Gaining.{caused}
-
--- no number is below another and the same
-below_or_same : (n m : ℕ) → (nat_lt n m && n == m) ≡ false
-below_or_same n m = by (nat_lt n m) refl (n == m) refl
-  where
-    by : (a : Bool) → nat_lt n m ≡ a → (b : Bool) → (n == m) ≡ b → (a && b) ≡ false
-    by false e b f = refl
-    by true e false f = refl
-    by true e true f = absurd (let less : n < m = ltb-true n m e in let same : n ≡ m = eqb-true n m f in omega (arith, less, same))
 
 -- where the cause stays there is no reset
 no_reset : (id : ℕ) (out : Bool) (cause : Option Cause) → reset_for id out cause cause ≡ []
@@ -46,10 +37,10 @@ module _ (setup : Setup) (s : Summary) (noted : Noted) where
   outline = (s.stream noted.frame.id).outline
 
   -- a frame that opens no stream calls for no GOAWAY
-  pub no_goaway : opens_by s.opened (completed_in s.block noted.frame) noted.note ≡ false → last_goaway_in s (Came noted) ≡ []
+  pub no_goaway : opens_by s.drained s.opened (completed_in s.block noted.frame) noted.note ≡ false → last_goaway_in s (Came noted) ≡ []
   no_goaway none =
-      ap (λ (b : Bool). if nat_lt (length s.opened) most_streams && length (if b then noted.frame.id ∷ s.opened else s.opened) == most_streams then goaway (highest_in (opened_after s (Came noted))) no_error ∷ [] else []) none
-      ∙ ap (λ (b : Bool). if b then goaway (highest_in (opened_after s (Came noted))) no_error ∷ [] else []) (below_or_same (length s.opened) most_streams)
+      ap (λ (b : Bool). if not s.drained && nat_lt (length s.opened) most_streams && (s.drained || length (if b then noted.frame.id ∷ s.opened else s.opened) == most_streams) then goaway (highest_in (opened_after s (Came noted))) no_error ∷ [] else []) none
+      ∙ ap (λ (b : Bool). if b then goaway (highest_in (opened_after s (Came noted))) no_error ∷ [] else []) (neither_full s.drained (length s.opened) most_streams)
 
   -- where the cause stays, no reset of its stream
   pub same_cause : first_of_both outline.cause (caused setup s noted) ≡ outline.cause → resets_in setup false s (Came noted) ≡ []

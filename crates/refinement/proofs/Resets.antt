@@ -118,7 +118,7 @@ reset_view kept id code = record {
   untaken = kept.untaken + length (spell (rst_stream id code));
 }
 
-module _ (setup : Setup) (kept : View) (pending : Pending) (rest : List Frame) (id code : ℕ) (front : pending.owed ≡ rst_stream id code ∷ rest) (nothing_due : pending.due ≡ Nothing) (known : may_open (ids_of kept.inbound.rows) id ≡ false) (fits : Fits (rst_stream id code)) (calm : nat_lt most_untaken kept.untaken ≡ false) (outputs : List Output) where
+module _ (setup : Setup) (kept : View) (pending : Pending) (rest : List Frame) (id code : ℕ) (front : pending.owed ≡ rst_stream id code ∷ rest) (nothing_due : pending.due ≡ Nothing) (known : may_open kept.inbound.drained (ids_of kept.inbound.rows) id ≡ false) (fits : Fits (rst_stream id code)) (calm : nat_lt most_untaken kept.untaken ≡ false) (outputs : List Output) where
   abbrev frame : Frame
   frame = rst_stream id code
 
@@ -160,7 +160,7 @@ module _ (setup : Setup) (kept : View) (pending : Pending) (rest : List Frame) (
           none_begun = none_begun;
           before_due = inl (ap (λ (r : theory_requests.State). r.due) leads.keeps.requests ∙ nothing_due);
           no_note = refl;
-          not_to_open = ap (λ (b : Book). may_open (ids_of b.rows) id) leads.keeps.book ∙ known;
+          not_to_open = ap (λ (b : Book). may_open b.drained (ids_of b.rows) id) leads.keeps.book ∙ known;
         };
         front = subst (λ (q : List Frame). q ≡ frame ∷ rest_of q) (sym queue) refl;
         control = refl;

@@ -1,6 +1,5 @@
 -- Before anything came: a session in which nothing is kept yet stands for the first state, with the gateway's settings owed.
 use Rattle.std.proofs.Common.{◌≡◌, ℕ, List, [], ◌∷◌, Option, Some, None, refl, sym, ◌∙◌, ap, subst}
-use Rattle.model.specs.Frames.{settings_frame}
 use Rattle.model.specs.Setup.{Setup}
 use Rattle.model.specs.Tables.{first_table}
 use Rattle.theory_errors.specs.Book.{first_ledger}
@@ -18,18 +17,14 @@ use Rattle.window_credit.specs.Standing.{StandFor, AreApart, ids_of}
 use Rattle.theory.specs.State as theory
 use Rattle.theory.specs.Rule.{rooms_in}
 use Rattle.theory.specs.Steps.{told_by}
-use Rattle.refinement.specs.View.{View, Pending, balanced, newest_in, Leads}
-
--- what is to be done first: the gateway's settings are owed
-abbrev pub first_pending : Pending
-first_pending = record balanced { owed = settings_frame ∷ [] }
+use Rattle.refinement.specs.View.{View, first_pending, newest_in, Leads}
 
 module _ (setup : Setup) (kept : View) (book : book_of (record { given = []; untaken = 0 }) kept.inbound ≡ (first_ledger setup).book) (offers : kept.offers ≡ theory_responses.start) (upstreams : kept.upstreams ≡ nothing) (table : kept.inbound.table ≡ first_table) (encoding : kept.encoding ≡ first_encoding (inserts setup.policy)) (marks : kept.marks ≡ []) (untaken : kept.untaken ≡ 0) where
   none_open : (k : ℕ) (c : Connection) → find number_of k kept.upstreams.live ≡ Some c → ⊥
   none_open k c found = let no : ◌≡◌ {A = Option Connection} None (Some c) = sym (ap (λ (u : State). find number_of k u.live) upstreams) ∙ found in cc
 
   -- No move led there.
-  pub first_leads : Leads setup [] kept first_pending (theory.state_of setup [])
+  pub first_leads : Leads setup [] kept (first_pending setup.more_room) (theory.state_of setup [])
   first_leads = record {
     stands = record { allowed = tt; is = refl; goes_on = refl };
     so = λ known same knows. tt;

@@ -4,7 +4,7 @@ use Rattle.std.specs.Prelude.{option_map}
 use Rattle.std.proofs.lemmas.Bool.{eq-eqb, eqb-true, cases_eq}
 use Rattle.std.proofs.lemmas.Bool.Decides.{eqb_tells}
 use Rattle.model.specs.Logs.{Event}
-use Rattle.model.specs.Logs.Event.{ClientTook, UpTook}
+use Rattle.model.specs.Logs.Event.{ClientTook, UpTook, Drain}
 use Rattle.model.specs.Logs.Act.{ToUp, Close}
 use Rattle.model.specs.Setup.{Setup}
 use Rattle.model.specs.Tapes.{Entry}
@@ -60,6 +60,7 @@ SaysNothing (Takes noted next addition) = Unit {0}
 SaysNothing (Breaks breach) = Unit {0}
 SaysNothing (Notes (ClientTook count)) = Unit {0}
 SaysNothing (Notes (UpTook k count)) = Unit {0}
+SaysNothing (Notes Drain) = Unit {0}
 SaysNothing (Sends noted next) = Unit {0}
 SaysNothing (Goes noted item part next) = Unit {0}
 SaysNothing (Acts act) = Unit {0}
@@ -70,6 +71,7 @@ answered_none known t (Takes noted next addition) none = tt
 answered_none known t (Breaks breach) none = tt
 answered_none known t (Notes (ClientTook count)) none = λ no. no
 answered_none known t (Notes (UpTook k count)) none = λ no. no
+answered_none known t (Notes Drain) none = λ no. no
 answered_none known t (Sends noted next) none = tt
 answered_none known t (Goes noted item part next) none = tt
 answered_none known t (Acts act) none = tt
@@ -267,6 +269,7 @@ module _ (setup : Setup) (run : List Move) (s : State) (stand : Stands setup run
   IsUnheard (Takes noted next addition) = Unit {0}
   IsUnheard (Notes (ClientTook count)) = Unit {0}
   IsUnheard (Notes (UpTook k count)) = Unit {0}
+  IsUnheard (Notes Drain) = Unit {0}
   IsUnheard (Sends noted next) = Unit {0}
   IsUnheard (Goes noted item part next) = Unit {0}
   IsUnheard (Acts (ToUp k octets)) = exchanges (Did (ToUp k octets) ∷ tape_of run) ≡ exchanges (tape_of run)
@@ -277,6 +280,7 @@ module _ (setup : Setup) (run : List Move) (s : State) (stand : Stands setup run
   heard_stays (Takes noted next addition) none = heard_behind (Takes noted next addition) (λ o. refl) refl
   heard_stays (Notes (ClientTook count)) none = heard_behind (Notes (ClientTook count)) (λ o. refl) refl
   heard_stays (Notes (UpTook j count)) none = heard_behind (Notes (UpTook j count)) (λ o. refl) refl
+  heard_stays (Notes Drain) none = heard_behind (Notes Drain) (λ o. refl) refl
   heard_stays (Sends noted next) none = heard_behind (Sends noted next) (λ o. refl) refl
   heard_stays (Goes noted item part next) none = heard_behind (Goes noted item part next) (λ o. refl) refl
   heard_stays (Acts (ToUp j octets)) none = heard_behind (Acts (ToUp j octets)) (λ o. refl) none

@@ -55,25 +55,25 @@ module _ (setup : Setup) (run : List Move) (s : State) (stand : Stands setup run
       (placed own (offers_of setup run) (offers_may setup run stand.allowed) (offers_right own run own_led.knows stand.allowed) (offers_told own run own_led.knows own_led.answered)).1)
 
   -- and what is kept of the client's octets, and of those that were put out
-  rooms_same : state_behind setup.passing (windows_of setup run) ≡ rooms_in (told_by s) s
+  rooms_same : state_behind setup.more_room setup.passing (windows_of setup run) ≡ rooms_in (told_by s) s
   rooms_same =
-      ap (λ (g : Gates). state_with g (kept_behind setup.passing (windows_of setup run))) (windows_gates setup run)
+      ap (λ (g : Gates). state_with g (kept_behind setup.more_room setup.passing (windows_of setup run))) (windows_gates setup run)
       ∙ ap (λ (u : Summary). rooms_in u (state_of setup run)) (before_is setup run s stand)
       ∙ ap (λ (x : State). rooms_in (told_by s) x) stand.is
 
-  pub moved_here : windows.state_of setup.passing (moves_of (windows_of setup run)) ≡ rooms_in (told_by s) s
-  moved_here = sym (state_same own setup.passing (windows_of setup run) (windows_may setup run stand.allowed) (windows_right own run own_led.knows stand.allowed own_led.answered)) ∙ rooms_same
+  pub moved_here : windows.state_of setup.more_room setup.passing (moves_of (windows_of setup run)) ≡ rooms_in (told_by s) s
+  moved_here = sym (state_same own setup.more_room setup.passing (windows_of setup run) (windows_may setup run stand.allowed) (windows_right own run own_led.knows stand.allowed own_led.answered)) ∙ rooms_same
 
   -- moves of windows that were allowed led to it
-  pub windows_allowed : AreAllowed setup.passing (moves_of (windows_of setup run))
-  windows_allowed = all_allowed own setup.passing (windows_of setup run) (windows_may setup run stand.allowed) (windows_right own run own_led.knows stand.allowed own_led.answered)
+  pub windows_allowed : AreAllowed setup.more_room setup.passing (moves_of (windows_of setup run))
+  windows_allowed = all_allowed own setup.more_room setup.passing (windows_of setup run) (windows_may setup run stand.allowed) (windows_right own run own_led.knows stand.allowed own_led.answered)
 
-  pub windows_here : Receiving setup.passing (tape_of run) (rooms_in (told_by s) s)
+  pub windows_here : Receiving setup.more_room setup.passing (tape_of run) (rooms_in (told_by s) s)
   windows_here =
-      subst (λ (x : windows.State). Receiving setup.passing (tape_of run) x) moved_here
-      (subst (λ (t : List Entry). Receiving setup.passing t (windows.state_of setup.passing (moves_of (windows_of setup run)))) (windows_tape setup run)
-      (receiving setup.passing (moves_of (windows_of setup run)) windows_allowed))
+      subst (λ (x : windows.State). Receiving setup.more_room setup.passing (tape_of run) x) moved_here
+      (subst (λ (t : List Entry). Receiving setup.more_room setup.passing t (windows.state_of setup.more_room setup.passing (moves_of (windows_of setup run)))) (windows_tape setup run)
+      (receiving setup.more_room setup.passing (moves_of (windows_of setup run)) windows_allowed))
 
   -- a stream is active by what is kept of windows just where it is by the book
   pub live_here : (id : ℕ) → windows.is_live (rooms_in (told_by s) s) id ≡ (sight_in (told_by s)).active id
-  live_here id = live_among setup.passing (tape_of run) (rooms_in (told_by s) s) id windows_here.keeping ∙ sym (right_here.active id)
+  live_here id = live_among setup.more_room setup.passing (tape_of run) (rooms_in (told_by s) s) id windows_here.keeping ∙ sym (right_here.active id)

@@ -29,7 +29,7 @@ pub record MayPass (s : State) (noted : Noted) (next : Table) : Type 0 where
   pub passing : is_passing noted ≡ true
   pub no_update : (noted.frame.kind == window_update_kind) ≡ false
   pub rightly : is_rightly_sent_in (told_by s) noted.frame ≡ true
-  pub not_to_open : may_open (told_by s).opened noted.frame.id ≡ false
+  pub not_to_open : may_open (told_by s).drained (told_by s).opened noted.frame.id ≡ false
   pub in_turn : MayBeginIf (windows_in (sight_in (told_by s))) s.offers (Sent noted)
   pub table : MayGive s.tables noted s.ledger.book.block_out next
 

@@ -1,6 +1,6 @@
 -- What the session is seen as, and how that stands to the state of the rule.
-use Rattle.std.specs.Prelude.{◌≡◌, ℕ, ◌<◌, Bool, true, false, List, [], Some, None}
-use Rattle.model.specs.Frames.{Frame}
+use Rattle.std.specs.Prelude.{◌≡◌, ℕ, ◌<◌, Bool, true, false, List, [], ◌∷◌, Some, None}
+use Rattle.model.specs.Frames.{Frame, settings_frame}
 use Rattle.model.specs.Setup.{Setup, Passing}
 use Rattle.model.specs.Setup.Passing.{Whole, Streaming}
 use Rattle.model.specs.Openings.{given}
@@ -54,6 +54,11 @@ pub record Pending : Type 0 where
 -- nothing is
 abbrev pub balanced : Pending
 balanced = record { owed = []; due = theory_requests.Due.Nothing; fresh = 0; shared = 0; own = λ id. 0 }
+
+-- what is to be done first: the gateway's settings are owed, and so many octets are to go back on the connection, whose window is to be as large as those of
+-- streams
+abbrev pub first_pending : ℕ → Pending
+first_pending more = record balanced { owed = settings_frame more ∷ []; shared = more }
 
 -- Octets go back on a stream while it is active and the client hasn't ended it.
 pub record GoBack (inbound : Inbound) (id : ℕ) : Type 0 where

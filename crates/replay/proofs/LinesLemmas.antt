@@ -14,7 +14,7 @@ use Rattle.std.specs.Str.Parse.{AllDigits, digits_value}
 use Rattle.replay.specs.declared.lines.LineFault.{LineFault}
 use Rattle.replay.specs.declared.lines.LineFault.TheVariants.{NotALine, Memory}
 use Rattle.replay.specs.Scripts.{IsNumber, IsHex, AreNumberAndHex, AreTwoNumbers, SaysNothing}
-use Rattle.model.specs.Logs.Event.{Client, ClientEnd, ClientTook, Up, UpEnd, UpFailed, UpTook}
+use Rattle.model.specs.Logs.Event.{Client, ClientEnd, ClientTook, Up, UpEnd, UpFailed, UpTook, Drain}
 use Rattle.replay.specs.Faults.{IsSeparated, IsNoNumber, AreNotTwoNumbers, RefusesHex, RefusesNumberAndHex, Refuses}
 
 -- the first so many octets are digits, and this is their number
@@ -150,6 +150,7 @@ says_up words bad (Up k piece) is = bad k piece (subst (λ w. AreNumberAndHex w 
 says_up words bad (UpEnd k) is = omega (arith, ap (λ t. get_or t 1 0) is.1)
 says_up words bad (UpFailed k) is = omega (arith, ap (λ t. get_or t 1 0) is.1)
 says_up words bad (UpTook k count) is = omega (arith, ap (λ t. get_or t 1 0) is.1)
+says_up words bad Drain is = omega (arith, ap (λ t. get_or t 0 0) is)
 
 says_up_took : (words : List ℕ) → AreNotTwoNumbers words → SaysNothing (85 ∷ 84 ∷ 32 ∷ words)
 says_up_took words bad (Client piece) is = omega (arith, ap (λ t. get_or t 0 0) is.1)
@@ -159,6 +160,7 @@ says_up_took words bad (Up k piece) is = omega (arith, ap (λ t. get_or t 1 0) i
 says_up_took words bad (UpEnd k) is = omega (arith, ap (λ t. get_or t 1 0) is.1)
 says_up_took words bad (UpFailed k) is = omega (arith, ap (λ t. get_or t 1 0) is.1)
 says_up_took words bad (UpTook k count) is = bad k count (subst (λ w. AreTwoNumbers w k count) (sym (ap (drop 3) is.1)) is.2)
+says_up_took words bad Drain is = omega (arith, ap (λ t. get_or t 0 0) is)
 
 pub up_took_nothing : (line words : List ℕ) → line ≡ 85 ∷ 84 ∷ 32 ∷ words → AreNotTwoNumbers words → SaysNothing line
 up_took_nothing line words parts bad = subst SaysNothing (sym parts) (says_up_took words bad)

@@ -1,12 +1,12 @@
 -- A line says at most one event.
 use Rattle.std.proofs.Common.{◌≡◌, ℕ, List, [], ◌∷◌, ◌++◌, drop, get_or, refl, sym, ap, ◌∙◌, arith}
 use Rattle.model.specs.Logs.{Event}
-use Rattle.model.specs.Logs.Event.{Client, ClientEnd, ClientTook, Up, UpEnd, UpFailed, UpTook}
+use Rattle.model.specs.Logs.Event.{Client, ClientEnd, ClientTook, Up, UpEnd, UpFailed, UpTook, Drain}
 use Rattle.replay.specs.Scripts.{IsNumber, IsHex, Says, AllSay}
 use Rattle.std.specs.Str.Parse.{digits_value}
 use Rattle.replay.proofs.LinesLemmas.{no_space, one_place}
 
--- the first octet of an event's line, and the second
+-- the first octet of an event's line, and the second, or 0 where there is none
 abbrev first : Event → ℕ
 first (Client piece) = 67
 first ClientEnd = 67
@@ -15,6 +15,7 @@ first (Up k piece) = 85
 first (UpEnd k) = 85
 first (UpFailed k) = 85
 first (UpTook k count) = 85
+first Drain = 68
 
 abbrev second : Event → ℕ
 second (Client piece) = 32
@@ -24,6 +25,7 @@ second (Up k piece) = 32
 second (UpEnd k) = 69
 second (UpFailed k) = 70
 second (UpTook k count) = 84
+second Drain = 0
 
 begins : (line : List ℕ) (event : Event) → Says line event → (get_or line 0 0 ≡ first event) × (get_or line 1 0 ≡ second event)
 begins line (Client piece) says = (ap (λ t. get_or t 0 0) says.1, ap (λ t. get_or t 1 0) says.1)
@@ -33,6 +35,7 @@ begins line (Up k piece) says = (ap (λ t. get_or t 0 0) says.1, ap (λ t. get_o
 begins line (UpEnd k) says = (ap (λ t. get_or t 0 0) says.1, ap (λ t. get_or t 1 0) says.1)
 begins line (UpFailed k) says = (ap (λ t. get_or t 0 0) says.1, ap (λ t. get_or t 1 0) says.1)
 begins line (UpTook k count) says = (ap (λ t. get_or t 0 0) says.1, ap (λ t. get_or t 1 0) says.1)
+begins line Drain says = (ap (λ t. get_or t 0 0) says, ap (λ t. get_or t 1 0) says)
 
 one_number : (word other : List ℕ) (m n : ℕ) → word ≡ other → IsNumber word m → IsNumber other n → m ≡ n
 one_number word other m n same p q = p.value ∙ ap (digits_value 10) same ∙ sym q.value
@@ -57,6 +60,7 @@ one_event line (UpFailed m) (UpFailed n) p q = ap UpFailed (one_number p.0 q.0 m
 one_event line (UpTook m x) (UpTook n y) p q =
     let words = same_words p.0 q.0 p.2.0 p.2.1 q.2.0 q.2.1 m n (ap (drop 3) (sym p.1 ∙ q.1)) p.2.2 q.2.2 p.2.3 q.2.3 in
     ap (λ k. UpTook k x) (one_number p.2.0 q.2.0 m n words.0 p.2.3 q.2.3) ∙ ap (UpTook n) (one_number p.2.1 q.2.1 x y words.1 p.2.4 q.2.4)
+one_event line Drain Drain p q = refl
 one_event line event other p q =
     let heads = begins line event p in
     let others = begins line other q in

@@ -50,6 +50,7 @@ default_setup = record {
   max_response = 1048576;
   keep = false;
   most_idle = 8;
+  more_room = 0;
 }
 
 -- The setup of a run: that of the configuration that a text says, and the default where no text is given.

@@ -4,7 +4,7 @@ use Rattle.std.specs.List.{slice_split}
 use Rattle.std.specs.Str.Parse.{AllDigits, digits_value}
 use Rattle.hex.specs.Hex.{decode_of}
 use Rattle.model.specs.Logs.{Event}
-use Rattle.model.specs.Logs.Event.{Client, ClientEnd, ClientTook, Up, UpEnd, UpFailed, UpTook}
+use Rattle.model.specs.Logs.Event.{Client, ClientEnd, ClientTook, Up, UpEnd, UpFailed, UpTook, Drain}
 
 -- the list without its last text, where that is empty
 abbrev pub without_empty_last : List (List ℕ) → List (List ℕ)
@@ -47,6 +47,7 @@ Says line (Up k piece) = (words : List ℕ) × (line ≡ codes "U " ++ words) ×
 Says line (UpEnd k) = (word : List ℕ) × (line ≡ codes "UE " ++ word) × IsNumber word k
 Says line (UpFailed k) = (word : List ℕ) × (line ≡ codes "UF " ++ word) × IsNumber word k
 Says line (UpTook k count) = (words : List ℕ) × (line ≡ codes "UT " ++ words) × AreTwoNumbers words k count
+Says line Drain = line ≡ codes "D"
 
 -- The lines say these events, one each.
 abbrev pub AllSay : List (List ℕ) → List Event → Type 0

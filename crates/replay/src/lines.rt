@@ -37,6 +37,7 @@ pub fn read_line(alloc: Global, line: &[u8]) -> Result<Event, LineFault>
     ensures err { IfErr result (λ fault. Refuses line.now fault) }
 {
     match line {
+        [b'D'] => Ok(Event::Drain),
         [b'C', b' ', word @ ..] => read_client(alloc, word),
         [b'C', b'E'] => Ok(Event::ClientEnd),
         [b'C', b'T', b' ', word @ ..] => match read_number(word) {

@@ -23,10 +23,11 @@ pub enum ScriptFault {
 
 /// The events that the lines of a script say, in their order.
 ///
-/// A line is `C hex`, `CE`, `CT n`, `U k hex`, `UE k`, `UF k` or `UT k n`: octets of the client, its end, a number of
-/// octets that were taken from it, and the same of the upstream connection k, of which `UF` is a failure. One space
-/// stands between words. A number has one to nine decimal digits; hex has two digits of either case for each octet, and
-/// none for no octets. Each line ends with LF, the last perhaps not.
+/// A line is `C hex`, `CE`, `CT n`, `U k hex`, `UE k`, `UF k`, `UT k n` or `D`: octets of the
+/// client, its end, a number of octets that were taken from it, and the same of the upstream
+/// connection k, of which `UF` is a failure; or the operator wants the connection to end. One space
+/// stands between words. A number has one to nine decimal digits; hex has two digits of either case
+/// for each octet, and none for no octets. Each line ends with LF, the last perhaps not.
 pub fn read_script(alloc: Global, script: &str) -> Result<Vec<Event>, ScriptFault>
     ensures ok { IfOk result (λ events. AllSay (lines_of script.now) (map event_of events.items)) }
     ensures err { IfErr result (λ fault. ExplainsFault script.now fault) }

@@ -92,7 +92,7 @@ fn streamed(alloc: Global) -> Answer {
 
 /// Opens a stream where its HEADERS may, and says whether they do.
 fn open_if_idle(streams: &mut StreamTable, id: u32) -> Result<bool, AllocError> {
-    match streams.verdict(id, Kind::Headers) {
+    match streams.verdict(false, id, Kind::Headers) {
         Verdict::Open => {
             streams.open(id, Live::opened(Course::new(), false))?;
             Ok(true)

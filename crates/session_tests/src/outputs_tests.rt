@@ -88,7 +88,7 @@ fn what_goes_to_one_place_is_joined(rt: HostRuntime) -> Result<(), Fail> {
 #[test]
 fn settings_are_announced_and_acknowledged(rt: HostRuntime) -> Result<(), Fail> {
     let mut outputs = Outputs::new(rt.alloc());
-    outputs.send_settings()?;
+    outputs.send_settings(0)?;
     outputs.send_settings_ack()?;
     let octets = octets_of(rt.alloc(), outputs)?;
     let expected = [

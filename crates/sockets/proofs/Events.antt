@@ -7,7 +7,7 @@ use Rattle.socket_io.specs.Transfers.{Gives}
 use Rattle.socket_io.specs.declared.incoming.Got.{Got}
 use Rattle.socket_io.specs.declared.incoming.Got.TheVariants.{Octets, Nothing, End}
 use Rattle.effects.specs.declared.events.Event.{Event}
-use Rattle.effects.specs.declared.events.Event.TheVariants.{Client, ClientEnd, ClientTook, Up, UpEnd, UpFailed, UpTook}
+use Rattle.effects.specs.declared.events.Event.TheVariants.{Client, ClientEnd, ClientTook, Up, UpEnd, UpFailed, UpTook, Drain}
 use Rattle.sockets.specs.declared.side.Side.{Side}
 use Rattle.sockets.specs.declared.upstream.Upstream.{Upstream}
 use Rattle.sockets.specs.Rooms.{room_in}
@@ -34,6 +34,7 @@ fits_room (Some (Up j octets)) k room rooms is of fits =
 fits_room (Some (UpEnd j)) k room rooms is of fits = some_room j k room rooms is of fits
 fits_room (Some (UpFailed j)) k room rooms is of fits = some_room j k room rooms is of fits
 fits_room (Some (UpTook j count)) k room rooms is of fits = absurd is
+fits_room (Some Drain) k room rooms is of fits = tt
 fits_room (Some (Client octets)) k room rooms is of fits = absurd is
 fits_room (Some ClientEnd) k room rooms is of fits = tt
 fits_room (Some (ClientTook count)) k room rooms is of fits = absurd is
@@ -78,6 +79,7 @@ fits_keeps rooms (Up k octets) fits = let some = fits.0 in let most = fits.1 in 
 fits_keeps rooms (UpEnd k) fits = has_room k 0 rooms fits (omega arith)
 fits_keeps rooms (UpFailed k) fits = has_room k 0 rooms fits (omega arith)
 fits_keeps rooms (UpTook k count) fits = tt
+fits_keeps rooms Drain fits = tt
 fits_keeps rooms (Client octets) fits = tt
 fits_keeps rooms ClientEnd fits = tt
 fits_keeps rooms (ClientTook count) fits = tt

@@ -113,6 +113,7 @@ hears_other idle (Some (event.Up k octets)) could h h' looks other same = same
 hears_other idle (Some (event.UpEnd k)) could h h' looks other same = same
 hears_other idle (Some (event.UpFailed k)) could h h' looks other same = same
 hears_other idle (Some (event.UpTook k count)) could h h' looks other same = same
+hears_other idle (Some event.Drain) could h h' looks other same = same
 
 -- An event of an upstream isn't.
 pub of_upstream : (event : Option Event) (k : ℕ) → IfSome event (IsOf k) → is_of_client event ≡ false
@@ -124,6 +125,7 @@ of_upstream (Some (event.Up j octets)) k of = refl
 of_upstream (Some (event.UpEnd j)) k of = refl
 of_upstream (Some (event.UpFailed j)) k of = refl
 of_upstream (Some (event.UpTook j count)) k of = absurd of
+of_upstream (Some event.Drain) k of = absurd of
 
 -- Octets of the client come behind what is idle.
 pub hears_client : (idle : List ℕ) (event : Option Event) (could : ℕ → Bool) (h h' looks : ℕ) → ((k : ℕ) → Contains idle k → could k ≡ false) → ((idle ≡ [] → ⊥) → h ≡ looks → ⊥)
@@ -136,6 +138,7 @@ hears_client idle (Some (event.Up k octets)) could h h' looks none looked is = i
 hears_client idle (Some (event.UpEnd k)) could h h' looks none looked is = is
 hears_client idle (Some (event.UpFailed k)) could h h' looks none looked is = is
 hears_client idle (Some (event.UpTook k count)) could h h' looks none looked is = is
+hears_client idle (Some event.Drain) could h h' looks none looked is = is
 
 -- Nothing came.
 pub quiet : (idle : List ℕ) (event : Option Event) (could : ℕ → Bool) (h h' looks : ℕ) → event ≡ None → HearsIdleFirst idle (next_of event) could h h' looks → h' ≡ h

@@ -10,7 +10,7 @@ use Rattle.socket_io.specs.declared.incoming.Got.TheVariants.{Octets, Nothing, E
 use Rattle.sockets.specs.Putting.{Passes}
 use Rattle.mio.specs.Interest.{is_readable}
 use Rattle.effects.specs.declared.events.Event.{Event}
-use Rattle.effects.specs.declared.events.Event.TheVariants.{Client, ClientEnd, ClientTook, Up, UpEnd, UpFailed, UpTook}
+use Rattle.effects.specs.declared.events.Event.TheVariants.{Client, ClientEnd, ClientTook, Up, UpEnd, UpFailed, UpTook, Drain}
 use Rattle.driver.specs.declared.world.WorldFault.{WorldFault}
 use Rattle.sockets.specs.declared.side.Side.{Side}
 use Rattle.sockets.specs.declared.upstream.Upstream.{Upstream}
@@ -230,6 +230,7 @@ module _ {S : Type 0} (left held : S → Option (List ℕ)) where
   by_listed (Some (Up k octets)) old mid new goes is = on_listed (came_news octets.items) old mid new goes is
   by_listed (Some (UpEnd k)) old mid new goes is = on_listed end_news old mid new goes is
   by_listed (Some (UpTook k count)) old mid new goes is = on_listed (took_news count) old mid new goes is
+  by_listed (Some Drain) old mid new goes is = on_listed no_news old mid new goes is
   by_listed (Some (Client octets)) old mid new goes is = on_listed no_news old mid new goes is
   by_listed (Some ClientEnd) old mid new goes is = on_listed no_news old mid new goes is
   by_listed (Some (ClientTook count)) old mid new goes is = on_listed no_news old mid new goes is
@@ -253,6 +254,7 @@ module _ {S : Type 0} (left held : S → Option (List ℕ)) where
   by_lost (Some (UpEnd j)) k old new is stays goes = on_told_lost (Some []) true old new goes
   by_lost (Some (UpFailed j)) k old new is stays goes = absurd (let no : true ≡ false = stays in cc)
   by_lost (Some (UpTook j count)) k old new is stays goes = absurd is
+  by_lost (Some Drain) k old new is stays goes = absurd is
   by_lost (Some (Client octets)) k old new is stays goes = absurd is
   by_lost (Some ClientEnd) k old new is stays goes = absurd is
   by_lost (Some (ClientTook count)) k old new is stays goes = absurd is
@@ -326,6 +328,7 @@ module _ {S : Type 0} (left held : S → Option (List ℕ)) where
   others_twice (Ok (Some (Up k octets))) us vs ws first second = one_twice k (came_news octets.items) us vs ws first second
   others_twice (Ok (Some (UpEnd k))) us vs ws first second = one_twice k end_news us vs ws first second
   others_twice (Ok (Some (UpTook k count))) us vs ws first second = one_twice k (took_news count) us vs ws first second
+  others_twice (Ok (Some Drain)) us vs ws first second = all_twice (Some []) us vs ws first second
   others_twice (Ok (Some (UpFailed k))) us vs ws first second = dropped_twice k us vs ws first second
   others_twice (Ok (Some (Client octets))) us vs ws first second = all_twice (Some []) us vs ws first second
   others_twice (Ok (Some ClientEnd)) us vs ws first second = all_twice (Some []) us vs ws first second
@@ -337,6 +340,7 @@ module _ {S : Type 0} (left held : S → Option (List ℕ)) where
   client_twice (Ok (Some (Up k octets))) old mid new first second = goes_twice (Some []) false 0 old mid new first second
   client_twice (Ok (Some (UpEnd k))) old mid new first second = goes_twice (Some []) false 0 old mid new first second
   client_twice (Ok (Some (UpTook k count))) old mid new first second = goes_twice (Some []) false 0 old mid new first second
+  client_twice (Ok (Some Drain)) old mid new first second = goes_twice (Some []) false 0 old mid new first second
   client_twice (Ok (Some (UpFailed k))) old mid new first second = goes_twice (Some []) false 0 old mid new first second
   client_twice (Ok (Some (Client octets))) old mid new first second = goes_twice (Some octets.items) false 0 old mid new first second
   client_twice (Ok (Some ClientEnd)) old mid new first second = goes_twice (Some []) true 0 old mid new first second
@@ -386,6 +390,7 @@ module _ {S : Type 0} (left held : S → Option (List ℕ)) where
   others_rise (Ok (Some (Up k octets))) us vs others up = one_rises k (came_news octets.items) us vs others up
   others_rise (Ok (Some (UpEnd k))) us vs others up = one_rises k end_news us vs others up
   others_rise (Ok (Some (UpTook k count))) us vs others up = one_rises k (took_news count) us vs others up
+  others_rise (Ok (Some Drain)) us vs others up = all_rise no_news us vs others up
   others_rise (Ok (Some (UpFailed k))) us vs others up = less_rises k others.mid vs others.one (all_rise no_news us others.mid others.all up)
   others_rise (Ok (Some (Client octets))) us vs others up = all_rise no_news us vs others up
   others_rise (Ok (Some ClientEnd)) us vs others up = all_rise no_news us vs others up
@@ -451,6 +456,7 @@ module _ {S : Type 0} (left held : S → Option (List ℕ)) where
         one = subst (λ few. Opens (IsNumbered j) few us) (sym (leaves refl ∙ set_removed us i u)) (one_fewer us i j old within (number ∙ sym is));
       }
   read_others (Some (UpTook j count)) us ws i k u old is within number goes stays leaves = absurd is
+  read_others (Some Drain) us ws i k u old is within number goes stays leaves = absurd is
   read_others (Some (Client octets)) us ws i k u old is within number goes stays leaves = absurd is
   read_others (Some ClientEnd) us ws i k u old is within number goes stays leaves = absurd is
   read_others (Some (ClientTook count)) us ws i k u old is within number goes stays leaves = absurd is
@@ -461,6 +467,7 @@ module _ {S : Type 0} (left held : S → Option (List ℕ)) where
   read_client_is (Some (UpEnd j)) k c is = goes_still c
   read_client_is (Some (UpFailed j)) k c is = goes_still c
   read_client_is (Some (UpTook j count)) k c is = absurd is
+  read_client_is (Some Drain) k c is = absurd is
   read_client_is (Some (Client octets)) k c is = absurd is
   read_client_is (Some ClientEnd) k c is = absurd is
   read_client_is (Some (ClientTook count)) k c is = absurd is

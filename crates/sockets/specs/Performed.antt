@@ -97,6 +97,7 @@ tells_of_client (event.Up k octets) = false
 tells_of_client (event.UpEnd k) = false
 tells_of_client (event.UpFailed k) = false
 tells_of_client (event.UpTook k count) = false
+tells_of_client event.Drain = false
 
 -- whether nothing comes
 abbrev pub is_nothing : Next → Bool

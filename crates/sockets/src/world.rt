@@ -330,6 +330,10 @@ fn is_of_client(event: &Event) -> bool
 {
     match event {
         Event::Client(_) | Event::ClientEnd | Event::ClientTook(_) => true,
-        Event::Up(_, _) | Event::UpEnd(_) | Event::UpFailed(_) | Event::UpTook(_, _) => false,
+        Event::Up(_, _)
+        | Event::UpEnd(_)
+        | Event::UpFailed(_)
+        | Event::UpTook(_, _)
+        | Event::Drain => false,
     }
 }

@@ -73,12 +73,12 @@ fn is_so(streams: &StreamTable, fact: Fact) -> bool {
         Fact::Active(count) => streams.active() == count,
         Fact::Count(count) => streams.count() == count,
         Fact::Highest(id) => streams.highest() == id,
-        Fact::Stands(id, standing) => streams.standing(id) == standing,
+        Fact::Stands(id, standing) => streams.standing(false, id) == standing,
         Fact::Served(id, is) => streams.is_served(id) == is,
         Fact::Shifts(first, is) => shifts_past(streams, first) == Some(is),
         Fact::Kept(id, is) => streams.find(id).is_some() == is,
         Fact::Of(id, seen) => is_seen_of(streams, id, seen),
-        Fact::Judged(id, kind, verdict) => streams.verdict(id, kind) == verdict,
+        Fact::Judged(id, kind, verdict) => streams.verdict(false, id, kind) == verdict,
     }
 }
 

@@ -10,7 +10,7 @@ mod courses;
 
 /// Opens a stream where its HEADERS may, which its client has ended or not, and says whether they do.
 fn open_if_idle(streams: &mut StreamTable, id: u32, ended: bool) -> Result<bool, AllocError> {
-    match streams.verdict(id, Kind::Headers) {
+    match streams.verdict(false, id, Kind::Headers) {
         Verdict::Open => {
             streams.open(id, Live::opened(BEGUN, ended))?;
             Ok(true)

@@ -1,7 +1,8 @@
 -- Which verdicts say that a stream may be opened.
-use Rattle.std.proofs.Common.{◌≡◌, ℕ, ◌≤◌, Bool, true, false, List, length, Option, Some, None, refl, sym, arith}
+use Rattle.std.proofs.Common.{◌≡◌, ℕ, ◌≤◌, Bool, true, false, List, length, Option, Some, None, refl, sym, arith, ◌||◌}
 use Rattle.std.specs.Prelude.{◌==◌, ◌%◌, ◌&&◌, if◌then◌else◌}
 use Rattle.std.proofs.lemmas.Bool.Decides.{nat_tests}
+use Rattle.std.proofs.lemmas.Bool.{or_parts}
 use Rattle.model.specs.Errors.Fault.{Stream}
 use Rattle.model.specs.Frames.{refused_stream}
 use Rattle.model.specs.StreamStates.{StreamState, OpenedStream, Standing, is_above, state_of, opened_or, standing, verdict}
@@ -50,14 +51,14 @@ idle_case false true false even None e = (refl, refl)
 idle_case false false full true None e = absurd (cc)
 idle_case false false full false None e = absurd (cc)
 
-pub idle_openable : (streams : List OpenedStream) (id : ℕ) → length streams ≤ most_streams → standing streams id ≡ Idle → IsOpenable id streams
-idle_openable streams id few e =
-    let found = idle_case (id == 0) (is_above id streams) (length streams == most_streams) (id % 2 == 0) (state_of id streams) e in
-    record { above = found.0; few = grind (arith, nat_tests, found.1) }
+pub idle_openable : (drained : Bool) (streams : List OpenedStream) (id : ℕ) → length streams ≤ most_streams → standing drained streams id ≡ Idle → IsOpenable id streams
+idle_openable drained streams id few e =
+    let found = idle_case (id == 0) (is_above id streams) (drained || length streams == most_streams) (id % 2 == 0) (state_of id streams) e in
+    record { above = found.0; few = (let not_full = or_parts drained (length streams == most_streams) found.1 in let some = not_full.1 in grind (arith, nat_tests, some)) }
 
-pub allows_opening : (streams : List OpenedStream) (id active kind : ℕ) (a : Answer) → length streams ≤ most_streams → verdict_in a ≡ verdict active (standing streams id) kind → AllowsOpening a id streams
-allows_opening streams id active kind answer.Open few e = idle_openable streams id few (opens_idle active (standing streams id) kind (sym e))
-allows_opening streams id active kind (answer.Stream code) few e = λ r. idle_openable streams id few (refuses_idle active (standing streams id) kind code (sym e) r)
-allows_opening streams id active kind answer.Pass few e = tt
-allows_opening streams id active kind answer.Discard few e = tt
-allows_opening streams id active kind (answer.Connection code) few e = tt
+pub allows_opening : (drained : Bool) (streams : List OpenedStream) (id active kind : ℕ) (a : Answer) → length streams ≤ most_streams → verdict_in a ≡ verdict active (standing drained streams id) kind → AllowsOpening a id streams
+allows_opening drained streams id active kind answer.Open few e = idle_openable drained streams id few (opens_idle active (standing drained streams id) kind (sym e))
+allows_opening drained streams id active kind (answer.Stream code) few e = λ r. idle_openable drained streams id few (refuses_idle active (standing drained streams id) kind code (sym e) r)
+allows_opening drained streams id active kind answer.Pass few e = tt
+allows_opening drained streams id active kind answer.Discard few e = tt
+allows_opening drained streams id active kind (answer.Connection code) few e = tt

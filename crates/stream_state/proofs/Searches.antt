@@ -1,5 +1,5 @@
 -- What a search finds among records whose ids rise.
-use Rattle.std.proofs.Common.{◌≡◌, ℕ, zero, suc, ◌-◌, ◌<◌, ◌≤◌, ◌≢◌, List, [], ◌∷◌, length, get_or, map, true, false, Bool, Some, None, Result, Ok, Err, IfOk, IfErr, refl, sym, ap, ◌∙◌, subst, inl, inr, arith}
+use Rattle.std.proofs.Common.{◌≡◌, ℕ, zero, suc, ◌-◌, ◌<◌, ◌≤◌, ◌≢◌, List, [], ◌∷◌, length, get_or, map, true, false, Bool, Some, None, Result, Ok, Err, IfOk, IfErr, refl, sym, ap, ◌∙◌, subst, inl, inr, arith, ◌||◌}
 use Rattle.std.specs.Prelude.{Option, ◌==◌, if◌then◌else◌, max, fold}
 use Rattle.std.proofs.lemmas.List.{get_or_default, length-map}
 use Rattle.std.proofs.lemmas.Bool.{cases_lt}
@@ -81,10 +81,10 @@ not_zero : (id : ℕ) → (id ≡ 0 → ⊥) → (id == 0) ≡ false
 not_zero id ne = grind (arith, nat_tests)
 
 -- the standing of an id that has a record
-pub standing_at : (rs : List Record) (id place : ℕ) (r : Record) → IsRising rs → (id ≡ 0 → ⊥) → IsAt rs id place → r ≡ get_or rs place r → Opened (state_in r.state) ≡ standing (streams_in rs) id
-standing_at rs id place r rising ne at e =
+pub standing_at : (drained : Bool) (rs : List Record) (id place : ℕ) (r : Record) → IsRising rs → (id ≡ 0 → ⊥) → IsAt rs id place → r ≡ get_or rs place r → Opened (state_in r.state) ≡ standing drained (streams_in rs) id
+standing_at drained rs id place r rising ne at e =
     let known = state_at rs id place rising at ∙ ap (λ (x : Record). Some (state_in x.state)) (read rs place r at.within e) in
-    sym (opened_case (id == 0) (state_of id (streams_in rs)) (unopened (is_above id (streams_in rs)) (length (streams_in rs) == most_streams) id) (state_in r.state) (not_zero id ne) known)
+    sym (opened_case (id == 0) (state_of id (streams_in rs)) (unopened (is_above id (streams_in rs)) (drained || length (streams_in rs) == most_streams) id) (state_in r.state) (not_zero id ne) known)
 
 -- an id without a record is above all just where its gap is at the end
 above_in_gap : (rs : List Record) (id place : ℕ) → IsGap rs id place → is_above id (streams_in rs) ≡ (place == length rs)
@@ -98,11 +98,11 @@ above_in_gap rs id place gap = elim (cases_lt place (length rs)) [
 ]
 
 -- and its standing is that of one that wasn't opened
-pub standing_in_gap : (rs : List Record) (id place : ℕ) → (id ≡ 0 → ⊥) → IsGap rs id place → unopened (place == length rs) (length rs == most_streams) id ≡ standing (streams_in rs) id
-standing_in_gap rs id place ne gap =
+pub standing_in_gap : (drained : Bool) (rs : List Record) (id place : ℕ) → (id ≡ 0 → ⊥) → IsGap rs id place → unopened (place == length rs) (drained || length rs == most_streams) id ≡ standing drained (streams_in rs) id
+standing_in_gap drained rs id place ne gap =
     let above = above_in_gap rs id place gap in
     let count = length-map rs stream_in in
-    rw (← above, ← count) (sym (unopened_case (id == 0) (state_of id (streams_in rs)) (unopened (is_above id (streams_in rs)) (length (streams_in rs) == most_streams) id) (not_zero id ne) (state_in_gap rs id place gap)))
+    rw (← above, ← count) (sym (unopened_case (id == 0) (state_of id (streams_in rs)) (unopened (is_above id (streams_in rs)) (drained || length (streams_in rs) == most_streams) id) (not_zero id ne) (state_in_gap rs id place gap)))
 
 -- the greatest of rising ids from a least number on is the last of them
 highest_from : (r : Record) (rs : List Record) (least : ℕ) → IsRising (r ∷ rs) → least ≤ r.id → fold max least (map (λ stream. stream.id) (streams_in (r ∷ rs))) ≡ id_at (r ∷ rs) (length rs)

@@ -63,19 +63,20 @@ impl Streams {
     /// DATA and RST_STREAM on 0, which the id alone is against, pass here: they are judged before
     /// (RFC 9113, sections 6.1 and 6.4). Where the answer is `Open`, or REFUSED_STREAM for want of
     /// room, `open` may be called with the id.
-    pub fn verdict(&self, id: u32, kind: Kind) -> Verdict
-        ensures is { verdict_in result ≡ verdict (active_count self.now) (standing self.now id) (kind_in kind) }
+    pub fn verdict(&self, drained: bool, id: u32, kind: Kind) -> Verdict
+        ensures is { verdict_in result ≡ verdict (active_count self.now) (standing drained self.now id) (kind_in kind) }
         ensures allows { AllowsOpening result id self.now }
     {
-        let standing = self.standing(id);
+        let standing = self.standing(drained, id);
         verdict_at(self.active, standing, kind)
     }
 
     /// How an id stands to the streams that were opened (RFC 9113, sections 5.1 and 5.1.1): so an
-    /// idle stream is told apart from one that is closed. An id above that of the 10,000th stream
-    /// is beyond the last that a GOAWAY with NO_ERROR named (RFC 9113, section 6.8).
-    pub fn standing(&self, id: u32) -> Standing
-        ensures { standing_in result ≡ standing self.now id }
+    /// idle stream is told apart from one that is closed. An id above that of the 10,000th stream,
+    /// and above all where the connection is drained, is beyond the last that a GOAWAY with
+    /// NO_ERROR named (RFC 9113, section 6.8).
+    pub fn standing(&self, drained: bool, id: u32) -> Standing
+        ensures { standing_in result ≡ standing drained self.now id }
     {
         if id == 0 {
             return Standing::WholeConnection;
@@ -84,7 +85,7 @@ impl Streams {
             Ok(place) => Standing::Opened(self.records[place].state),
             Err(place) => {
                 let count = self.records.len();
-                unopened_standing(id, place == count, count == MOST_STREAMS)
+                unopened_standing(id, place == count, drained, count == MOST_STREAMS)
             }
         }
     }

@@ -1,6 +1,6 @@
 //! What comes of a frame by the state of its stream (RFC 9113, sections 5.1, 5.1.1, 5.1.2 and 6.8).
 
-ghost use Rattle.std.specs.Prelude.{◌≡◌};
+ghost use Rattle.std.specs.Prelude.{◌≡◌, ◌||◌};
 ghost use Rattle.model.specs.StreamStates.{opened_verdict, idle_verdict, skipped_verdict, verdict, unopened};
 ghost use Rattle.stream_state.specs.Views.{state_in, kind_in, standing_in, verdict_in};
 
@@ -120,11 +120,12 @@ fn skipped_verdict(kind: Kind) -> Verdict
     }
 }
 
-/// The standing of an id that wasn't opened: whether it is above every opened one, and whether all streams were opened.
-pub fn unopened_standing(id: u32, above: bool, full: bool) -> Standing
-    ensures { standing_in result ≡ unopened above full id }
+/// The standing of an id that wasn't opened: whether it is above every opened one, and whether none
+/// may be opened any more, since the connection is drained or all were.
+pub fn unopened_standing(id: u32, above: bool, drained: bool, full: bool) -> Standing
+    ensures { standing_in result ≡ unopened above (drained || full) id }
 {
-    if above && full {
+    if above && (drained || full) {
         Standing::Beyond
     } else if id % 2 == 0 {
         Standing::ServerIdle

@@ -153,11 +153,11 @@ not_zero : (id : ℕ) → (id ≡ 0 → ⊥) → (id == 0) ≡ false
 not_zero id ne = ne_eqb id 0 ne
 
 -- the standing of an id that has an entry
-pub standing_at : (es : List StreamEntry) (rs : List (Option StreamRecord)) (id place : ℕ) → AreKept (rows_in es rs) → (id ≡ 0 → ⊥) → IsAt es id place → Opened (state_in (kept_in (slot_in rs (at es place).slot))) ≡ standing (rows_in es rs) id
-standing_at es rs id place kept ne is =
+pub standing_at : (drained : Bool) (es : List StreamEntry) (rs : List (Option StreamRecord)) (id place : ℕ) → AreKept (rows_in es rs) → (id ≡ 0 → ⊥) → IsAt es id place → Opened (state_in (kept_in (slot_in rs (at es place).slot))) ≡ standing drained (rows_in es rs) id
+standing_at drained es rs id place kept ne is =
     let f : ℕ → Kept = find (rows_in es rs) in
     let above : Bool = is_above id (opened_in (rows_in es rs)) in
-    let full : Bool = length (opened_in (rows_in es rs)) == most_streams in
+    let full : Bool = drained || length (opened_in (rows_in es rs)) == most_streams in
     sym (
     ap (λ b. if b then WholeConnection else opened_or (state_of id (opened_in (rows_in es rs))) (unopened above full id)) (not_zero id ne)
     ∙ ap (λ (x : Option StreamState). opened_or x (unopened above full id)) (state_found f (ids_of (rows_in es rs)) id (has_at es rs id place kept is))
@@ -165,16 +165,16 @@ standing_at es rs id place kept ne is =
     )
 
 -- the standing of one that has none
-pub standing_in_gap : (es : List StreamEntry) (rs : List (Option StreamRecord)) (id place : ℕ) → AreKept (rows_in es rs) → (id ≡ 0 → ⊥) → IsGap es id place → unopened (place == length es) (length es == most_streams) id ≡ standing (rows_in es rs) id
-standing_in_gap es rs id place kept ne gap =
+pub standing_in_gap : (drained : Bool) (es : List StreamEntry) (rs : List (Option StreamRecord)) (id place : ℕ) → AreKept (rows_in es rs) → (id ≡ 0 → ⊥) → IsGap es id place → unopened (place == length es) (drained || length es == most_streams) id ≡ standing drained (rows_in es rs) id
+standing_in_gap drained es rs id place kept ne gap =
     let f : ℕ → Kept = find (rows_in es rs) in
     let above : Bool = is_above id (opened_in (rows_in es rs)) in
-    let full : Bool = length (opened_in (rows_in es rs)) == most_streams in
+    let full : Bool = drained || length (opened_in (rows_in es rs)) == most_streams in
     sym (
     ap (λ b. if b then WholeConnection else opened_or (state_of id (opened_in (rows_in es rs))) (unopened above full id)) (not_zero id ne)
     ∙ ap (λ (x : Option StreamState). opened_or x (unopened above full id)) (state_none f (ids_of (rows_in es rs)) id (none_in_gap es rs id place gap))
     ∙ ap (λ b. unopened b full id) (above_ids f (ids_of (rows_in es rs)) id ∙ above_in_gap es rs id place kept gap)
-    ∙ ap (λ n. unopened (place == length es) (n == most_streams) id) (count_opened es rs)
+    ∙ ap (λ n. unopened (place == length es) (drained || n == most_streams) id) (count_opened es rs)
     )
 
 -- ---- how many are active

@@ -1,5 +1,5 @@
 -- A stream more, above all that were opened.
-use Rattle.std.proofs.Common.{◌≡◌, ℕ, ◌+◌, ◌<◌, ◌≤◌, ◌==◌, if◌then◌else◌, List, [], ◌∷◌, ◌++◌, length, map, true, false, Bool, Some, None, refl, sym, ap, ◌∙◌, subst, inl, inr, arith, cond}
+use Rattle.std.proofs.Common.{◌≡◌, ℕ, ◌+◌, ◌<◌, ◌≤◌, ◌==◌, if◌then◌else◌, List, [], ◌∷◌, ◌++◌, length, map, true, false, Bool, Some, None, refl, sym, ap, ◌∙◌, subst, inl, inr, arith, cond, ◌||◌}
 use Rattle.std.specs.Prelude.{Option, nat_lt, reverse}
 use Rattle.std.specs.List.{list_all, AllByRecursion}
 use Rattle.std.proofs.lemmas.Bool.{cases_lt, cases_eq, and_parts, ltb-true}
@@ -125,19 +125,19 @@ idle_stream : (whole : Bool) (otherwise : Standing) → (if whole then WholeConn
 idle_stream true otherwise e = absurd (cc)
 idle_stream false otherwise e = refl
 
-pub idle_may_open : (all : List Row) (id : ℕ) → length all ≤ most_streams → standing all id ≡ Idle → MayOpen all id
-idle_may_open all id few idle =
+pub idle_may_open : (drained : Bool) (all : List Row) (id : ℕ) → length all ≤ most_streams → standing drained all id ≡ Idle → MayOpen all id
+idle_may_open drained all id few idle =
     let count : length (opened_in all) ≡ length all = length-map (ids_of all) (λ (i : ℕ). record { id = i; state = state_in (find all i) }) ∙ length-map all (λ (row : Row). row.id) in
-    let may = idle_openable (opened_in all) id (omega (arith, count, few)) idle in
+    let may = idle_openable drained (opened_in all) id (omega (arith, count, few)) idle in
     record {
-      of_stream = idle_stream (id == 0) (opened_or (state_of id (opened_in all)) (unopened (is_above id (opened_in all)) (length (opened_in all) == most_streams) id)) idle;
+      of_stream = idle_stream (id == 0) (opened_or (state_of id (opened_in all)) (unopened (is_above id (opened_in all)) (drained || length (opened_in all) == most_streams) id)) idle;
       above = sym (above_ids (find all) (ids_of all) id) ∙ may.above;
       few = omega (arith, count, may.few);
     }
 
-pub allows : (all : List Row) (id kind : ℕ) (a : Answer) → length all ≤ most_streams → verdict_in a ≡ verdict all id kind → AllowsOpening a all id
-allows all id kind answer.Open few e = idle_may_open all id few (opens_idle (length (active_in all)) (standing all id) kind (sym e))
-allows all id kind (answer.Stream code) few e = λ refused. idle_may_open all id few (refuses_idle (length (active_in all)) (standing all id) kind code (sym e) refused)
-allows all id kind answer.Pass few e = tt
-allows all id kind answer.Discard few e = tt
-allows all id kind (answer.Connection code) few e = tt
+pub allows : (drained : Bool) (all : List Row) (id kind : ℕ) (a : Answer) → length all ≤ most_streams → verdict_in a ≡ verdict drained all id kind → AllowsOpening a all id
+allows drained all id kind answer.Open few e = idle_may_open drained all id few (opens_idle (length (active_in all)) (standing drained all id) kind (sym e))
+allows drained all id kind (answer.Stream code) few e = λ refused. idle_may_open drained all id few (refuses_idle (length (active_in all)) (standing drained all id) kind code (sym e) refused)
+allows drained all id kind answer.Pass few e = tt
+allows drained all id kind answer.Discard few e = tt
+allows drained all id kind (answer.Connection code) few e = tt

@@ -17,9 +17,9 @@ use Rattle.theory_errors.specs.Rows.{Row, Slot, ids_of, find}
 abbrev pub opened_in : List Row → List OpenedStream
 opened_in rows = map (λ id. record { id = id; state = state_in (find rows id) }) (ids_of rows)
 
--- how an id stands to them (RFC 9113, section 5.1)
-abbrev pub standing : List Row → ℕ → Standing
-standing rows id = states.standing (opened_in rows) id
+-- how an id stands to them, where the connection is drained or isn't (RFC 9113, section 5.1)
+abbrev pub standing : Bool → List Row → ℕ → Standing
+standing drained rows id = states.standing drained (opened_in rows) id
 
 -- the ids of those that are active
 abbrev pub active_in : List Row → List ℕ
@@ -34,8 +34,8 @@ abbrev pub is_active : List Row → ℕ → Bool
 is_active rows id = has rows id && not (is_over_in (find rows id))
 
 -- what comes of a type on a stream
-abbrev pub verdict : List Row → ℕ → ℕ → Verdict
-verdict rows id kind = states.verdict (length (active_in rows)) (standing rows id) kind
+abbrev pub verdict : Bool → List Row → ℕ → ℕ → Verdict
+verdict drained rows id kind = states.verdict (length (active_in rows)) (standing drained rows id) kind
 
 -- a first size of windows with which that of an active stream is past the greatest (RFC 9113, section 6.9.2)
 abbrev pub shifts_past : ℕ → List Row → Bool

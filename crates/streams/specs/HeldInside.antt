@@ -1,6 +1,6 @@
 -- How many octets lie in this crate's types. Each count takes the struct apart by the names of all its fields, and counts each by its type: what lies in
 -- one field more has to be counted here.
-use Rattle.std.specs.Prelude.{ℕ, ◌+◌, Bool, ℤ, Option, Some, None, sum_by}
+use Rattle.std.specs.Prelude.{ℕ, ◌+◌, Bool, Option, Some, None, sum_by}
 use Rattle.theory_errors.specs.Summary.{Stream as Kept}
 use Rattle.flow_control.specs.HeldInside.{in_size}
 use Rattle.streams.specs.declared.StreamTable.TheInside.{Inside as StreamsInside}

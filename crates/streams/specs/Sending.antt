@@ -47,6 +47,10 @@ ends_by step.Failed = false
 abbrev pub AreSendable : ℕ → Kept → Type 0
 AreSendable count kept = (count == 0) ≡ false → IsAboveLeast (kept.balance -ℤ pos count)
 
+-- What was given back stays a window's size behind octets of DATA that come.
+abbrev pub AreTakable : ℕ → Kept → Type 0
+AreTakable count kept = IsAboveLeast (kept.room -ℤ pos count)
+
 -- The receiving window isn't past the greatest with these octets.
 abbrev pub AreReturnable : ℕ → Kept → Type 0
 AreReturnable count kept = (kept.room +ℤ pos count) ≤ℤ pos greatest_window

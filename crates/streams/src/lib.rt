@@ -63,7 +63,7 @@ impl Model for StreamTable {
 impl StreamTable {
     ghost use Rattle.streams.specs.Asked.{standing, verdict, AllowsOpening, MayOpen, active_in, is_active, shifts_past, changed, IsLive};
     ghost use Rattle.streams.specs.Steps.{granted, taken};
-    ghost use Rattle.streams.specs.Sending.{head_sent, data_sent, given_back, failed, stepped, AreSendable, AreReturnable, HasRoom, is_served};
+    ghost use Rattle.streams.specs.Sending.{AreTakable, head_sent, data_sent, given_back, failed, stepped, AreSendable, AreReturnable, HasRoom, is_served};
 
     /// A connection on which no stream was opened.
     pub fn new(alloc: Global) -> Self
@@ -106,13 +106,14 @@ impl StreamTable {
         }
     }
 
-    /// Takes octets of DATA on an active stream, all of the payload, which its receiving room has
-    /// (RFC 9113, section 6.9.1), or trailers of 0 octets; no other stream changes. Behind them
-    /// this is the course of its request, and its client has ended it with them, or hasn't. Where
-    /// both sides have ended it then, it is over (RFC 9113, section 5.1).
+    /// Takes octets of DATA on an active stream, all of the payload, or trailers of 0 octets; no
+    /// other stream changes. What was given back on it is then at most a window's size less than
+    /// what came (RFC 9113, section 6.9.1). Behind them this is the course of its request, and its
+    /// client has ended it with them, or hasn't. Where both sides have ended it then, it is over
+    /// (RFC 9113, section 5.1).
     pub fn take(&mut self, id: u32, octets: u32, course: Course, ended: bool)
         requires live { is_active self.old id ≡ true }
-        requires fits { (octets == 0) ≡ false → pos octets ≤ℤ (kept_of self.old id).room }
+        requires fits { (octets == 0) ≡ false → AreTakable octets (kept_of self.old id) }
         ensures is { self.new ≡ changed id (slot_of (taken octets (outline_of course) ended (kept_of self.old id))) self.old }
         ensures kept { AreKept self.new }
     {
@@ -129,7 +130,7 @@ impl StreamTable {
     /// The same, where it is active behind them.
     fn put(&mut self, id: u32, octets: u32, course: Course, ended: bool)
         requires live { is_active self.old id ≡ true }
-        requires fits { (octets == 0) ≡ false → pos octets ≤ℤ (kept_of self.old id).room }
+        requires fits { (octets == 0) ≡ false → AreTakable octets (kept_of self.old id) }
         requires goes_on { is_over_in (taken octets (outline_of course) ended (kept_of self.old id)) ≡ false }
         ensures is { self.new ≡ changed id (Active (taken octets (outline_of course) ended (kept_of self.old id))) self.old }
         ensures kept { AreKept self.new }
@@ -229,10 +230,10 @@ impl StreamTable {
     }
 
     /// How an id stands to the streams that were opened (RFC 9113, sections 5.1 and 5.1.1); an id
-    /// above that of the 10,000th is beyond the last that a GOAWAY with NO_ERROR named (RFC 9113,
-    /// section 6.8).
-    pub fn standing(&self, id: u32) -> Standing
-        ensures { standing_in result ≡ standing self.now id }
+    /// above that of the 10,000th, and above all where the connection is drained, is beyond the last
+    /// that a GOAWAY with NO_ERROR named (RFC 9113, section 6.8).
+    pub fn standing(&self, drained: bool, id: u32) -> Standing
+        ensures { standing_in result ≡ standing drained self.now id }
     {
         if id == 0 {
             return Standing::WholeConnection;
@@ -241,7 +242,7 @@ impl StreamTable {
             Ok(place) => Standing::Opened(state_of(&self.records, self.entries[place])),
             Err(place) => {
                 let count = self.entries.len();
-                unopened_standing(id, place == count, count == MOST_STREAMS)
+                unopened_standing(id, place == count, drained, count == MOST_STREAMS)
             }
         }
     }
@@ -249,12 +250,12 @@ impl StreamTable {
     /// What comes of a frame on this id by the state of its stream (RFC 9113, sections 5.1, 5.1.1
     /// and 5.1.2). Where the answer is `Open`, or REFUSED_STREAM for want of room, `open` may be
     /// called with the id.
-    pub fn verdict(&self, id: u32, kind: Kind) -> Verdict
-        ensures is { verdict_in result ≡ verdict self.now id (kind_in kind) }
+    pub fn verdict(&self, drained: bool, id: u32, kind: Kind) -> Verdict
+        ensures is { verdict_in result ≡ verdict drained self.now id (kind_in kind) }
         ensures allows { AllowsOpening result self.now id }
         ensures kept { AreKept self.now }
     {
-        let standing = self.standing(id);
+        let standing = self.standing(drained, id);
         verdict_at(self.records.len() as u32, standing, kind)
     }
 

@@ -3,7 +3,7 @@
 ghost use Rattle.std.specs.Prelude.{◌≡◌, ◌==◌, ◌||◌, false, pos, ◌+ℤ◌, ◌≤ℤ◌, is_some};
 ghost use Rattle.model.specs.Windows.{IsSize};
 ghost use Rattle.streams.specs.Steps.{granted, taken};
-ghost use Rattle.streams.specs.Sending.{head_sent, data_sent, given_back, failed, stepped, AreSendable, AreReturnable, HasRoom};
+ghost use Rattle.streams.specs.Sending.{head_sent, data_sent, given_back, failed, stepped, AreSendable, AreTakable, AreReturnable, HasRoom};
 ghost use Rattle.streams.specs.Views.{outline_of};
 ghost use Rattle.theory_errors.specs.Judging.{state_in as state_kept, is_over_in};
 ghost use Rattle.theory_errors.specs.Rows.{fresh};
@@ -13,7 +13,6 @@ use crate::course::Course;
 use crate::steps::StreamStep;
 use flow_control::Window;
 use local_replies::Cause;
-use protocol::limits::FIRST_WINDOW;
 use std::marker::Model;
 use stream_state::State;
 
@@ -48,7 +47,7 @@ impl Live {
             ended_by_client: ended,
             ended_by_gateway: false,
             balance: Window::new(0),
-            room: Window::new(FIRST_WINDOW),
+            room: Window::new(0),
             head_out: false,
             course,
         }
@@ -63,7 +62,8 @@ impl Live {
         self.balance.left()
     }
 
-    /// How many octets of DATA may come on it (RFC 9113, section 6.9.1).
+    /// What was given back on it without what came, in octets: its receiving window less the size
+    /// with which all such windows begin (RFC 9113, sections 6.9.1 and 6.9.2).
     pub fn room(&self) -> i64
         ensures is { result ≡ self.now.room }
         ensures in_range { IsSize self.now.room }
@@ -135,14 +135,14 @@ impl Live {
         (ended || self.ended_by_client) && self.ended_by_gateway
     }
 
-    /// Takes so many octets of DATA, for which there is room (RFC 9113, section 6.9.1), or trailers
+    /// Takes so many octets of DATA, which its receiving window has (RFC 9113, section 6.9.1), or trailers
     /// of none, behind which this is its course, and with which its client ends it or doesn't.
     pub(crate) fn take(&mut self, octets: u32, course: Course, ended: bool)
-        requires { (octets == 0) ≡ false → pos octets ≤ℤ self.old.room }
+        requires { (octets == 0) ≡ false → AreTakable octets self.old }
         ensures { self.new ≡ taken octets (outline_of course) ended self.old }
     {
         if octets > 0 {
-            self.room.take(octets);
+            self.room.spend(octets);
         }
         self.course = course;
         self.ended_by_client = ended || self.ended_by_client;

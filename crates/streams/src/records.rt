@@ -6,7 +6,7 @@ ghost use Rattle.model.specs.Windows.{IsSize};
 ghost use Rattle.model.specs.Limits.{greatest_window};
 ghost use Rattle.slab.specs.Slab.{entries, HasRoomFor, with_value};
 ghost use Rattle.streams.specs.Steps.{granted, taken};
-ghost use Rattle.streams.specs.Sending.{stepped, HasRoom};
+ghost use Rattle.streams.specs.Sending.{AreTakable, stepped, HasRoom};
 ghost use Rattle.theory_errors.specs.Judging.{state_in as state_kept};
 ghost use Rattle.theory_errors.specs.Rows.{kept_in};
 ghost use Rattle.stream_state.specs.Views.{state_in};
@@ -99,7 +99,7 @@ pub fn grant_at(records: &mut Slab<StreamRecord>, key: u32, increment: u32)
 
 /// Takes octets of DATA, or trailers, on the stream of the record at a key.
 pub fn take_at(records: &mut Slab<StreamRecord>, key: u32, octets: u32, course: Course, ended: bool)
-    requires { (octets == 0) ≡ false → IfSome (record_at records.old.slots key) (λ r. pos octets ≤ℤ r.live.room) }
+    requires { (octets == 0) ≡ false → IfSome (record_at records.old.slots key) (λ r. AreTakable octets r.live) }
     ensures { IfSome (record_at records.old.slots key) (λ r. records.new
         ≡ with_value records.old key (record r { live = taken octets (outline_of course) ended r.live })) }
 {

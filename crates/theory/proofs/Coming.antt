@@ -6,7 +6,7 @@ use Rattle.model.specs.Frames.{rst_stream_kind}
 use Rattle.model.specs.Setup.{Setup}
 use Rattle.model.specs.Tables.{Table}
 use Rattle.model.specs.Logs.{Event}
-use Rattle.model.specs.Logs.Event.{Client, ClientEnd, ClientTook, Up, UpEnd, UpFailed, UpTook}
+use Rattle.model.specs.Logs.Event.{Client, ClientEnd, ClientTook, Up, UpEnd, UpFailed, UpTook, Drain}
 use Rattle.model.specs.Tapes.{Noted, Breach}
 use Rattle.model.specs.Tapes.Entry.{Came}
 use Rattle.model.specs.Decoding.{Partial}
@@ -88,6 +88,7 @@ module _ (setup : Setup) (behind : Summary) (s : State) (ready : IsReady s) wher
   failed_may ClientEnd heard of kept = absurd of
   failed_may (ClientTook count) heard of kept = absurd of
   failed_may (UpTook k count) heard of kept = absurd of
+  failed_may Drain heard of kept = absurd of
 
   -- an answer that doesn't fail
   pub may_hear : (event : Event) (stream : ℕ) (news : Delivery) (heard : Heard) → MayHear behind s event stream → MayDo setup (told_by s) behind s (Hears event stream news heard)
@@ -127,6 +128,7 @@ module _ (setup : Setup) (behind : Summary) (s : State) (ready : IsReady s) wher
   idled_may ClientEnd of kept = absurd of
   idled_may (ClientTook count) of kept = absurd of
   idled_may (UpTook k count) of kept = absurd of
+  idled_may Drain of kept = absurd of
 
   pub may_idle : (event : Event) → MayIdle s event → MayDo setup (told_by s) behind s (Idles event)
   may_idle event may = record {
@@ -202,7 +204,7 @@ module _ (setup : Setup) (s : State) (noted : Noted) where
   same_ids (row ∷ rows) = ap (λ (ids : List ℕ). row.id ∷ ids) (same_ids rows)
 
   abbrev opens : Bool
-  opens = opens_by u.opened (completed_in u.block noted.frame) noted.note
+  opens = opens_by u.drained u.opened (completed_in u.block noted.frame) noted.note
 
   abbrev pub is_one : List ℕ → Bool
   is_one ids = list_any (λ other. other == noted.frame.id) ids
@@ -213,7 +215,7 @@ module _ (setup : Setup) (s : State) (noted : Noted) where
       there : is_one (ids_of behind) ≡ true
       there = (and_parts (not (is_one (ids_of s.ledger.book.rows))) (is_one (ids_of behind)) new).1
 
-      block_of : (block : Option Partial) → opens_by u.opened block noted.note ≡ true → (b : Partial) × (block ≡ Some b)
+      block_of : (block : Option Partial) → opens_by u.drained u.opened block noted.note ≡ true → (b : Partial) × (block ≡ Some b)
       block_of (Some b) e = (b, refl)
       block_of None e = cc
 

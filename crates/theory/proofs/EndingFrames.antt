@@ -17,7 +17,7 @@ use Rattle.model.specs.Errors.{Fault}
 use Rattle.model.specs.Errors.Fault.{Connection}
 use Rattle.model.specs.Known.{Known}
 use Rattle.model.specs.Causes.{Cause}
-use Rattle.model.specs.Lifetimes.{opens_by, is_active, is_opened, is_over, opened}
+use Rattle.model.specs.Lifetimes.{opens_by, is_active, is_opened, is_over, opened, is_drained}
 use Rattle.model.specs.Courses.{first_of_both, interrupts}
 use Rattle.model.specs.ErrorClause.{is_fatal, acks, reset_for}
 use Rattle.model.proofs.OwedSteps.{no_reset_for}
@@ -211,13 +211,17 @@ module _ (setup : Setup) (run : List Move) (all : AllAllowed setup run) (ready :
   same_opened : p.opened ≡ u.opened
   same_opened = sym (ap (λ (x : Summary). x.opened) tells.same)
 
+  same_drained : p.drained ≡ u.drained
+  same_drained = sym (ap (λ (x : Summary). x.drained) tells.same)
+
   same_block : p.block ≡ u.block
   same_block = sym (ap (λ (x : Summary). x.block) tells.same)
 
-  opens_none : opens_by p.opened (completed_in p.block noted.frame) noted.note ≡ false
+  opens_none : opens_by p.drained p.opened (completed_in p.block noted.frame) noted.note ≡ false
   opens_none =
-      ap (λ os. opens_by os (completed_in p.block noted.frame) noted.note) same_opened
-      ∙ ap (λ b. opens_by u.opened (completed_in b noted.frame) noted.note) same_block
+      ap (λ os. opens_by p.drained os (completed_in p.block noted.frame) noted.note) same_opened
+      ∙ ap (λ d. opens_by d u.opened (completed_in p.block noted.frame) noted.note) same_drained
+      ∙ ap (λ b. opens_by u.drained u.opened (completed_in b noted.frame) noted.note) same_block
       ∙ opening.opens_none u noted s.tables.decoding next may.noted_right.is_noted may.fatal
 
   -- the same streams were opened behind it
@@ -253,9 +257,9 @@ module _ (setup : Setup) (run : List Move) (all : AllAllowed setup run) (ready :
   opens_not : c.opens ≡ false
   opens_not = by ((sight_in (summary_at setup run)).active noted.frame.id) ((sight_in (summary_at setup (Does d ∷ run))).active noted.frame.id) (right.active noted.frame.id) (right_behind.active noted.frame.id)
     where
-      on_tape : opens_by (opened t) (completed (came t) noted.frame) noted.note ≡ false
+      on_tape : opens_by (is_drained t) (opened t) (completed (came t) noted.frame) noted.note ≡ false
       on_tape =
-          ap (λ (x : Summary). opens_by x.opened (completed_in x.block noted.frame) noted.note) (sym (moves_same known run (known_so setup (conducts run)) (all_moved known run all)))
+          ap (λ (x : Summary). opens_by x.drained x.opened (completed_in x.block noted.frame) noted.note) (sym (moves_same known run (known_so setup (conducts run)) (all_moved known run all)))
           ∙ opens_none
 
       by : (a b : Bool) → a ≡ is_active noted.frame.id t → b ≡ is_active noted.frame.id (Came noted ∷ t) → (not a && b) ≡ false

@@ -18,7 +18,7 @@ use Rattle.model.specs.Known.{Known}
 use Rattle.model.specs.Lifetimes.{is_active}
 use Rattle.model.specs.Courses.{first_of_both}
 use Rattle.model.specs.ErrorClause.{is_calming, reset_for}
-use Rattle.model.proofs.OwedSteps.{neither, no_reset_for}
+use Rattle.model.proofs.OwedSteps.{neither_full, no_reset_for}
 use Rattle.theory_errors.specs.Summary.{Summary}
 use Rattle.theory_errors.specs.Judging.{is_crowded_in}
 use Rattle.theory_errors.specs.Owing.{about_in, fault_in, highest_in, opened_after, code_of_goaway_in, next_outline, resets_in, owes_in}
@@ -149,7 +149,7 @@ module _ (setup : Setup) (run : List Move) (all : AllAllowed setup run) (ready :
   owes_nothing =
       let u : Summary = told_by s in
       let about : ℕ = about_in u (Happened ClientEnd) in
-      ap (λ b. (if b then goaway (highest_in u.opened) no_error ∷ [] else []) ++ (resets_in setup false u (Happened ClientEnd) ++ [])) (neither (length u.opened) most_streams)
+      ap (λ b. (if b then goaway (highest_in u.opened) no_error ∷ [] else []) ++ (resets_in setup false u (Happened ClientEnd) ++ [])) (neither_full u.drained (length u.opened) most_streams)
       ∙ ap (λ (fs : List Frame). fs ++ []) (
       ap (λ c. reset_for about (next_outline setup false about u (Happened ClientEnd)).head_out (u.stream about).outline.cause (first_of_both (u.stream about).outline.cause c)) (no_cause_if (about == about && nat_lt 0 about) _ refl)
       ∙ no_reset_for about (next_outline setup false about u (Happened ClientEnd)).head_out (u.stream about).outline.cause

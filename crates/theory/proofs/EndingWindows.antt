@@ -193,8 +193,8 @@ module _ (u : Summary) (noted : Noted) (plain : completed_in u.block noted.frame
     on_stream apart there =
         let found = looked u.opened f.id there in
         standing_mild (Opened found.0)
-        (ap (λ b. if b then WholeConnection else opened_or (state_of f.id (streams_in u)) (unopened (is_above f.id (streams_in u)) (length (streams_in u) == most_streams) f.id)) apart
-        ∙ ap (λ (o : Option StreamState). opened_or o (unopened (is_above f.id (streams_in u)) (length (streams_in u) == most_streams) f.id)) found.1)
+        (ap (λ b. if b then WholeConnection else opened_or (state_of f.id (streams_in u)) (unopened (is_above f.id (streams_in u)) (u.drained || length (streams_in u) == most_streams) f.id)) apart
+        ∙ ap (λ (o : Option StreamState). opened_or o (unopened (is_above f.id (streams_in u)) (u.drained || length (streams_in u) == most_streams) f.id)) found.1)
         refl (opened_mild found.0)
         (ap (λ b. is_fatal (first_of (fault_if (b && grants_nothing f) (Connection protocol_error) ∷ fault_if (b && grants_past u.window f) (Connection flow_control_error) ∷ []))) apart)
 
@@ -202,7 +202,7 @@ module _ (u : Summary) (noted : Noted) (plain : completed_in u.block noted.frame
     on_connection : (f.id == 0) ≡ true → (increment f == 0) ≡ false → is_past (u.window +ℤ pos (increment f)) ≡ false → AreMild later
     on_connection whole some within =
         standing_mild WholeConnection
-        (ap (λ b. if b then WholeConnection else opened_or (state_of f.id (streams_in u)) (unopened (is_above f.id (streams_in u)) (length (streams_in u) == most_streams) f.id)) whole)
+        (ap (λ b. if b then WholeConnection else opened_or (state_of f.id (streams_in u)) (unopened (is_above f.id (streams_in u)) (u.drained || length (streams_in u) == most_streams) f.id)) whole)
         refl refl
         (ap (λ b. is_fatal (first_of (fault_if (f.id == 0 && (grants f && b)) (Connection protocol_error) ∷ fault_if (f.id == 0 && grants_past u.window f) (Connection flow_control_error) ∷ []))) some
         ∙ ap (λ b. is_fatal (first_of (fault_if (f.id == 0 && (grants f && false)) (Connection protocol_error) ∷ fault_if (f.id == 0 && (grants f && b)) (Connection flow_control_error) ∷ []))) within

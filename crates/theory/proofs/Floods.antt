@@ -1,6 +1,7 @@
 -- Whoever keeps the rule keeps the clause on floods.
 use Rattle.std.proofs.Common.{◌≡◌, true, false, not, ◌&&◌, List, [], ◌∷◌, reverse, sym, ap, ◌∙◌, subst, inl, inr}
 use Rattle.std.proofs.lemmas.Bool.{and_parts}
+use Rattle.model.specs.Setup.{own_window}
 use Rattle.model.specs.Tapes.{Noted, Entry}
 use Rattle.model.specs.Known.{Known}
 use Rattle.model.specs.ErrorClause.{is_calming, calls_for_end, stands_in}
@@ -41,11 +42,11 @@ module _ (known : Known) (run : List Move) (knows : AreKnown known (conducts run
       (all_passed_on known (turns_of known.setup run) (turns_may known.setup run all) (turns_so known run knows all answered) nothing)
 
   -- octets that are to be given back
-  returned : OwesSome (sight_in (summary_at known.setup run)) (rooms_in (summary_at known.setup run) (state_of known.setup run)) → GoesBack known.setup.passing t
+  returned : OwesSome (sight_in (summary_at known.setup run)) (rooms_in (summary_at known.setup run) (state_of known.setup run)) → GoesBack (own_window known.setup) known.setup.passing t
   returned owes =
-      subst (GoesBack known.setup.passing) (windows_tape known.setup run)
+      subst (GoesBack (own_window known.setup) known.setup.passing) (windows_tape known.setup run)
       (run_goes_back known (windows_of known.setup run) (windows_may known.setup run all) (windows_right known run knows all answered)
-      (subst (λ (g : Gates). OwesSome (windows.sight_of (windows_of known.setup run)) (windows.state_with g (windows.kept_behind known.setup.passing (windows_of known.setup run)))) (sym (windows_gates known.setup run))
+      (subst (λ (g : Gates). OwesSome (windows.sight_of (windows_of known.setup run)) (windows.state_with g (windows.kept_behind known.setup.more_room known.setup.passing (windows_of known.setup run)))) (sym (windows_gates known.setup run))
       (subst (λ (s : Sight). OwesSome s (rooms_in (summary_at known.setup run) (state_of known.setup run))) (sym (windows_sight known.setup run)) owes)))
 
   -- what would go by what is kept would go by the tape, where nothing is due to an upstream

@@ -1,5 +1,6 @@
 -- Whoever keeps the rule keeps the headline: at rest, and before each thing that comes in.
 use Rattle.std.proofs.Common.{◌≡◌, Bool, true, false, List, [], ◌∷◌, None, refl, sym, ◌∙◌, ap, subst}
+use Rattle.model.specs.Setup.{own_window}
 use Rattle.model.specs.Logs.{Event}
 use Rattle.model.specs.Tapes.{Entry, sent, is_closed, EndsWithClose}
 use Rattle.model.specs.Tapes.Entry.{Came, Breached, Happened, Sent, Did}
@@ -83,21 +84,21 @@ module _ (known : Known) (run : List Move) (k : IsKnown known run) (rests : Rest
   none_begun : begun (sent t) ≡ None
   none_begun = sym (block_out_told known (conducts run) k.knows (all_moved known run k.all)) ∙ rests.conduct.none_begun
 
-  no_more : GivesNoMore t
+  no_more : GivesNoMore (own_window known.setup) t
   no_more =
-      subst GivesNoMore (windows_tape known.setup run)
-      (gives_no_more known.setup.passing (windows.moves_of (windows_of known.setup run)) (all_allowed known known.setup.passing (windows_of known.setup run) (windows_may known.setup run k.all) (windows_right known run k.knows k.all k.answered)))
+      subst (GivesNoMore (own_window known.setup)) (windows_tape known.setup run)
+      (gives_no_more known.setup.more_room known.setup.passing (windows.moves_of (windows_of known.setup run)) (all_allowed known known.setup.more_room known.setup.passing (windows_of known.setup run) (windows_may known.setup run k.all) (windows_right known run k.knows k.all k.answered)))
 
-  kept_back : HoldsBack known.setup.passing t
+  kept_back : HoldsBack (own_window known.setup) known.setup.passing t
   kept_back =
-      subst (HoldsBack known.setup.passing) (windows_tape known.setup run)
-      (holds_back known.setup.passing (windows.moves_of (windows_of known.setup run)) (all_allowed known known.setup.passing (windows_of known.setup run) (windows_may known.setup run k.all) (windows_right known run k.knows k.all k.answered)))
+      subst (HoldsBack (own_window known.setup) known.setup.passing) (windows_tape known.setup run)
+      (holds_back known.setup.more_room known.setup.passing (windows.moves_of (windows_of known.setup run)) (all_allowed known known.setup.more_room known.setup.passing (windows_of known.setup run) (windows_may known.setup run k.all) (windows_right known run k.knows k.all k.answered)))
 
   gives_back : is_closed t ≡ false → GivesBack known t
   gives_back open_yet =
       subst (GivesBack known) (windows_tape known.setup run)
       (run_gives_back known (windows_of known.setup run) (windows_may known.setup run k.all) (windows_right known run k.knows k.all k.answered)
-      (subst (λ (g : Gates). OwesNothing (windows.sight_of (windows_of known.setup run)) (windows.state_with g (windows.kept_behind known.setup.passing (windows_of known.setup run)))) (sym (windows_gates known.setup run))
+      (subst (λ (g : Gates). OwesNothing (windows.sight_of (windows_of known.setup run)) (windows.state_with g (windows.kept_behind known.setup.more_room known.setup.passing (windows_of known.setup run)))) (sym (windows_gates known.setup run))
       (subst (λ (s : Sight). OwesNothing s (rooms_in (summary_at known.setup run) (state_of known.setup run))) (sym (windows_sight known.setup run)) (rests.given_back (closed_told known run k.knows (all_moved known run k.all) ∙ open_yet)))))
 
   -- ---- the clauses

@@ -4,7 +4,7 @@ use Rattle.model.specs.Messages.{Item}
 use Rattle.model.specs.Messages.Item.{Block}
 use Rattle.model.specs.Setup.{Setup}
 use Rattle.model.specs.Logs.{Event, Act}
-use Rattle.model.specs.Logs.Event.{Client, ClientEnd, ClientTook, Up, UpEnd, UpFailed, UpTook}
+use Rattle.model.specs.Logs.Event.{Client, ClientEnd, ClientTook, Up, UpEnd, UpFailed, UpTook, Drain}
 use Rattle.model.specs.Logs.Act.{Open, ToUp, Close, CloseClient}
 use Rattle.model.specs.Frames.{window_update_kind}
 use Rattle.model.specs.Openings.{exchanges, given, last_stream, begins_another}
@@ -79,11 +79,11 @@ offers_may setup (Does d ∷ run) all = (
 )
 offers_may setup (Settles ∷ run) all = offers_may setup run all
 
-pub windows_may : (setup : Setup) (run : List Move) → AllAllowed setup run → windows.AllMayCome setup.passing (windows_of setup run)
+pub windows_may : (setup : Setup) (run : List Move) → AllAllowed setup run → windows.AllMayCome setup.more_room setup.passing (windows_of setup run)
 windows_may setup [] all = tt
 windows_may setup (Does d ∷ run) all = (
   windows_may setup run all.0,
-  subst (λ (g : Gates). windows.MayCome setup.passing g (windows.sight_of (windows_of setup run)) (sight_in (summary_at setup (Does d ∷ run))) (windows.state_with g (windows.kept_behind setup.passing (windows_of setup run))) (window_of (sight_in (summary_at setup run)) (sight_in (summary_at setup (Does d ∷ run))) d)) (sym (windows_gates setup run))
+  subst (λ (g : Gates). windows.MayCome setup.passing g (windows.sight_of (windows_of setup run)) (sight_in (summary_at setup (Does d ∷ run))) (windows.state_with g (windows.kept_behind setup.more_room setup.passing (windows_of setup run))) (window_of (sight_in (summary_at setup run)) (sight_in (summary_at setup (Does d ∷ run))) d)) (sym (windows_gates setup run))
       (subst (λ (s : Sight). windows.MayCome setup.passing (gates_in (summary_at setup run) (theory_requests.state_of setup (turns_of setup run))) s (sight_in (summary_at setup (Does d ∷ run))) (rooms_in (summary_at setup run) (state_of setup run)) (window_of (sight_in (summary_at setup run)) (sight_in (summary_at setup (Does d ∷ run))) d)) (sym (windows_sight setup run)) all.1.window),
 )
 windows_may setup (Settles ∷ run) all = (windows_may setup run all, tt)
@@ -195,6 +195,7 @@ failed_so known t (ClientTook count) heard so = so
 failed_so known t (Up k piece) heard so = so
 failed_so known t (UpEnd k) heard so = so
 failed_so known t (UpTook k count) heard so = so
+failed_so known t Drain heard so = so
 
 -- what comes of an idle connection
 idled_so : (known : Known) (t : List Entry) (event : Event) → IsIdle known t (upstream_of event) → IsSo known t (idled event)
@@ -206,6 +207,7 @@ idled_so known t (Up k (octet ∷ octets)) idle = hears_more known t k idle octe
 idled_so known t (UpEnd k) idle = hears_end known t k idle
 idled_so known t (UpFailed k) idle = tt
 idled_so known t (UpTook k count) idle = tt
+idled_so known t Drain idle = tt
 
 request_so : (known : Known) (run : List Move) → AreKnown known (conducts run) → (all : AllAllowed known.setup run) → (d : Decision) → Rattle.theory.specs.Rule.AdditionsIf known.setup (summary_at known.setup run) d → IsAnswered known (tape_of run) d → IsSo known (tape_of run) (request_of d)
 request_so known run knows all (Takes noted next addition) additions so = gained_so known (tape_of run) (summary_at known.setup run) noted addition (addition_told known run knows all noted) additions

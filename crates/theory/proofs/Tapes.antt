@@ -5,7 +5,7 @@ use Rattle.model.specs.Setup.{Setup}
 use Rattle.model.specs.Logs.{Event, Act}
 use Rattle.model.specs.Logs.Act.{Open, ToUp, Close, CloseClient}
 use Rattle.model.specs.Openings.{given, begins_another}
-use Rattle.model.specs.Logs.Event.{Client, ClientEnd, ClientTook, Up, UpEnd, UpFailed, UpTook}
+use Rattle.model.specs.Logs.Event.{Client, ClientEnd, ClientTook, Up, UpEnd, UpFailed, UpTook, Drain}
 use Rattle.model.specs.Tapes.{Noted, Entry}
 use Rattle.model.specs.Tapes.Entry.{Happened, Sent, Did}
 use Rattle.theory_responses.specs.Rule as offers
@@ -51,6 +51,7 @@ failed_entry (Up k piece) heard = refl
 failed_entry (UpEnd k) heard = refl
 failed_entry (UpFailed k) heard = refl
 failed_entry (UpTook k count) heard = refl
+failed_entry Drain heard = refl
 
 idled_entry : (event : Event) → theory_requests.entry_of (idled event) ≡ Happened event
 idled_entry (Client piece) = refl
@@ -61,6 +62,7 @@ idled_entry (Up k (octet ∷ octets)) = refl
 idled_entry (UpEnd k) = refl
 idled_entry (UpFailed k) = refl
 idled_entry (UpTook k count) = refl
+idled_entry Drain = refl
 
 pub request_entry : (d : Decision) → theory_requests.entry_of (request_of d) ≡ entry_of d
 request_entry (Takes noted next addition) = gained_entry noted addition

@@ -4,7 +4,7 @@ use Rattle.std.proofs.Common.{◌≡◌, ℕ, zero, suc, Bool, true, false, ◌&
 use Rattle.std.proofs.lemmas.Bool.{cases_Bool, eq-eqb, ne_eqb, lt-ltb}
 use Rattle.std.proofs.lemmas.Bool.Decides.{eqb_tells}
 use Rattle.model.specs.Logs.{Event, Act}
-use Rattle.model.specs.Logs.Event.{Client, ClientEnd, ClientTook, Up, UpEnd, UpFailed, UpTook}
+use Rattle.model.specs.Logs.Event.{Client, ClientEnd, ClientTook, Up, UpEnd, UpFailed, UpTook, Drain}
 use Rattle.model.specs.Logs.Act.{Open, ToUp, Close, CloseClient}
 use Rattle.model.specs.Tapes.{Entry}
 use Rattle.model.specs.Tapes.Entry.{Came, Breached, Happened, Sent, Did}
@@ -161,6 +161,7 @@ open_before (ClientTook count) k t on = on
 open_before (Up j piece) k t on = on
 open_before (UpEnd j) k t on = on
 open_before (UpTook j count) k t on = on
+open_before Drain k t on = on
 open_before (UpFailed j) k t on = by (k == j) on
   where
     by : (b : Bool) → (if b then false else is_open k t) ≡ true → is_open k t ≡ true
@@ -192,6 +193,7 @@ module _ (known : Known) (t : List Entry) (s : theory_requests.State) (h : Stand
           by (Up j piece) e = absurd (never (sym (ap (λ x. ended_by (exchange_on k t) (Happened x ∷ t)) e) ∙ ended))
           by (UpFailed j) e = absurd (never (sym (ap (λ x. ended_by (exchange_on k t) (Happened x ∷ t)) e) ∙ ended))
           by (UpTook j count) e = absurd (never (sym (ap (λ x. ended_by (exchange_on k t) (Happened x ∷ t)) e) ∙ ended))
+          by Drain e = absurd (never (sym (ap (λ x. ended_by (exchange_on k t) (Happened x ∷ t)) e) ∙ ended))
 
 -- ---- along a run
 

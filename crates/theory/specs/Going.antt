@@ -29,7 +29,7 @@ pub record GoesBetween (s : State) (noted : Noted) : Type 0 where
   pub none_begun : s.ledger.book.block_out ≡ None
   pub before_due : requests.MaySend s.requests noted
   pub no_note : noted.note ≡ NoBlock
-  pub not_to_open : may_open (told_by s).opened noted.frame.id ≡ false
+  pub not_to_open : may_open (told_by s).drained (told_by s).opened noted.frame.id ≡ false
 
 -- The frame is what is owed next: an acknowledgement, an answer to a PING, a reset, a GOAWAY.
 pub record IsOwedNext (s : State) (noted : Noted) : Type 0 where

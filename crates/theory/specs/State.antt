@@ -101,5 +101,5 @@ state_of setup run = record {
   offers = theory_responses.state_of (offers.moves_of (offers_of setup run));
   requests = theory_requests.state_of setup (turns_of setup run);
   tables = theory_header_tables.state_of setup.policy (tables_of setup run);
-  windows = windows.kept_behind setup.passing (windows_of setup run);
+  windows = windows.kept_behind setup.more_room setup.passing (windows_of setup run);
 }

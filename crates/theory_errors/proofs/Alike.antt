@@ -15,7 +15,7 @@ use Rattle.model.specs.WindowsOnTape.{has_settings, is_past}
 use Rattle.model.specs.ErrorTable.{grants_nothing, grants_past, is_past_room, fault_of, is_idle, is_headers, judged, unless_of_stream}
 use Rattle.model.specs.Limits.{most_resets}
 use Rattle.theory_errors.specs.Summary.{Outline, Stream as Kept, Summary}
-use Rattle.theory_errors.specs.Judging.{window_in, is_over_in, is_active_in, active_in, shifts_past_in, standing_in, completed_in, shift_in, fault_on_in, fault_by_standing_in, idle_in, resets_row_in, stream_update_in, stream_data_in, malformed_in, rows_before_block_in, rows_behind_block_in, rows_in, fault_for}
+use Rattle.theory_errors.specs.Judging.{window_in, is_over_in, is_active_in, active_in, shifts_past_in, standing_in, completed_in, shift_in, fault_on_in, fault_by_standing_in, idle_in, resets_row_in, stream_update_in, stream_data_in, malformed_in, rows_before_block_in, rows_behind_block_in, rows_in, fault_for, room_in}
 use Rattle.theory_errors.specs.After.{are_taken_in}
 use Rattle.theory_errors.specs.Rows.{WillDo, with_streams}
 use Rattle.theory_errors.proofs.Standings.{AreAlike, each_alike, standing_verdict, standing_idle, actives_same, any_active_same}
@@ -41,7 +41,7 @@ module _ (f : ℕ → Kept) (s : Summary) (will : WillDo f s) where
   fault_on_seen : (id : ℕ) (kind : Option ℕ) → fault_on_in seen id kind ≡ fault_on_in s id kind
   fault_on_seen id None = refl
   fault_on_seen id (Some kind) =
-      ap fault_of (standing_verdict (length (active_in seen)) kind f s.stream s.opened all_alike id)
+      ap fault_of (standing_verdict s.drained (length (active_in seen)) kind f s.stream s.opened all_alike id)
       ∙ ap (λ (ids : List ℕ). fault_of (verdict (length ids) (standing_in s id) kind)) active_same
 
   pub by_standing_seen : (frame : Frame) → fault_by_standing_in seen frame ≡ fault_by_standing_in s frame
@@ -50,7 +50,7 @@ module _ (f : ℕ → Kept) (s : Summary) (will : WillDo f s) where
   idle_seen : (frame : Frame) → idle_in seen frame ≡ idle_in s frame
   idle_seen frame =
       let no_headers : Bool = not (is_headers (judged (completed_in s.block frame) frame)) in
-      ap (λ b. if b && no_headers then fault_by_standing_in seen frame else None) (standing_idle f s.stream s.opened frame.id)
+      ap (λ b. if b && no_headers then fault_by_standing_in seen frame else None) (standing_idle s.drained f s.stream s.opened frame.id)
       ∙ ap (λ (x : Option Fault). if is_idle (standing_in s frame.id) && no_headers then x else None) (by_standing_seen frame)
 
   -- a test of a stream where it is active
@@ -84,7 +84,7 @@ module _ (f : ℕ → Kept) (s : Summary) (will : WillDo f s) where
       ∙ ap (λ b. first_of (fault_if (is_active_in frame.id s && grants_nothing frame) (Stream protocol_error) ∷ fault_if b (Stream flow_control_error) ∷ [])) (when_active past frame.id)
 
   data_seen : (frame : Frame) → stream_data_in seen frame ≡ stream_data_in s frame
-  data_seen frame = ap (λ b. fault_if b (Stream flow_control_error)) (when_active (λ kept. is_past_room kept.room frame) frame.id)
+  data_seen frame = ap (λ b. fault_if b (Stream flow_control_error)) (when_active (λ kept. is_past_room (room_in s.own kept) frame) frame.id)
 
   pub before_seen : (frame : Frame) → rows_before_block_in seen frame ≡ rows_before_block_in s frame
   before_seen frame =

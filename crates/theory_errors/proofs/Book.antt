@@ -5,7 +5,7 @@ use Rattle.model.specs.Frames.{Frame, rst_stream_kind, spell}
 use Rattle.model.specs.Limits.{most_untaken}
 use Rattle.model.specs.Setup.{Setup}
 use Rattle.model.specs.SettingValues.{settings_in, initial_window_after}
-use Rattle.model.specs.Logs.Event.{Client, ClientEnd, ClientTook, Up, UpEnd, UpFailed, UpTook}
+use Rattle.model.specs.Logs.Event.{Client, ClientEnd, ClientTook, Up, UpEnd, UpFailed, UpTook, Drain}
 use Rattle.model.specs.Logs.Act.{Open, ToUp, Close, CloseClient}
 use Rattle.model.specs.Tapes.{Noted, Entry, sent}
 use Rattle.model.specs.Tapes.Breach.{WrongPreface, TooLong}
@@ -90,6 +90,7 @@ module _ (setup : Setup) (fails : Bool) (rows : List Row) (s : Summary) (stand :
   ends_seen (Happened (UpEnd k)) = refl
   ends_seen (Happened (UpFailed k)) = refl
   ends_seen (Happened (UpTook k count)) = refl
+  ends_seen (Happened Drain) = refl
   ends_seen (Sent noted) = refl
   ends_seen (Did act) = refl
 

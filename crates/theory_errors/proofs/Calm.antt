@@ -22,9 +22,9 @@ use Rattle.model.specs.Lifetimes.{may_open, opens_by}
 use Rattle.model.specs.ErrorTable.{fault_of, judged, grants, grants_nothing, grants_past, is_idle, is_headers, is_undecodable, unless_of_stream}
 use Rattle.model.specs.ErrorClause.{is_fatal}
 use Rattle.model.proofs.OpenedLaws.{not_opened}
-use Rattle.model.proofs.OwedSteps.{neither}
+use Rattle.model.proofs.OwedSteps.{neither_full}
 use Rattle.theory_errors.specs.Summary.{Outline, Stream as Kept, Summary}
-use Rattle.theory_errors.specs.Judging.{active_in, is_active_in, standing_in, window_in, completed_in, state_in, fault_on_in, fault_by_standing_in, stream_update_in, stream_data_in, malformed_in, are_last, is_crowded_in, no_goaway_in, rows_before_block_in, rows_behind_block_in, fault_for}
+use Rattle.theory_errors.specs.Judging.{active_in, is_active_in, standing_in, window_in, completed_in, state_in, fault_on_in, fault_by_standing_in, stream_update_in, stream_data_in, malformed_in, are_last, is_crowded_in, no_goaway_in, rows_before_block_in, rows_behind_block_in, fault_for, room_in}
 use Rattle.theory_errors.specs.Owing.{fault_in}
 use Rattle.theory_errors.specs.Book.{is_told}
 use Rattle.theory_errors.proofs.Standings.{states}
@@ -170,19 +170,26 @@ looked_none f (other ∷ ids) id none =
     let parts = or_parts (other == id) (list_any (λ o. o == id) ids) none in
     ap (λ b. if b then Some (state_in (f other)) else state_of id (states f ids)) parts.0 ∙ looked_none f ids id parts.1
 
-pub idle_standing : (s : Summary) (id : ℕ) → may_open s.opened id ≡ true → standing_in s id ≡ Idle
+not_so : (b : Bool) → not b ≡ true → b ≡ false
+not_so true is = let no : false ≡ true = is in cc
+not_so false is = refl
+
+pub idle_standing : (s : Summary) (id : ℕ) → may_open s.drained s.opened id ≡ true → standing_in s id ≡ Idle
 idle_standing s id may =
-    let parts = and_parts (id % 2 == 1 && list_all (λ other. nat_lt other id) s.opened) (nat_lt (length s.opened) most_streams) may in
+    let parts = and_parts (id % 2 == 1 && list_all (λ other. nat_lt other id) s.opened) (not s.drained && nat_lt (length s.opened) most_streams) may in
     let both = and_parts (id % 2 == 1) (list_all (λ other. nat_lt other id) s.opened) parts.0 in
     let odd = eqb-true (id % 2) 1 both.0 in
-    let room = ltb-true (length s.opened) most_streams parts.1 in
+    let last = and_parts (not s.drained) (nat_lt (length s.opened) most_streams) parts.1 in
+    let room = ltb-true (length s.opened) most_streams last.1 in
+    let undrained : s.drained ≡ false = not_so s.drained last.0 in
     let above : is_above id (states s.stream s.opened) ≡ true = above_told s.stream s.opened id ∙ both.1 in
     let not_full : (length (states s.stream s.opened) == most_streams) ≡ false = ap (λ n. n == most_streams) (count_told s.stream s.opened) ∙ ne_eqb (length s.opened) most_streams (λ same. omega (arith, same, room)) in
     let not_zero : (id == 0) ≡ false = ne_eqb id 0 (λ same. let other : 0 % 2 ≡ 1 = subst (λ n. n % 2 ≡ 1) same odd in omega (arith, other)) in
     let not_even : (id % 2 == 0) ≡ false = ne_eqb (id % 2) 0 (λ same. omega (arith, same, odd)) in
-    ap (λ b. if b then WholeConnection else opened_or (state_of id (states s.stream s.opened)) (unopened (is_above id (states s.stream s.opened)) (length (states s.stream s.opened) == most_streams) id)) not_zero
-    ∙ ap (λ (o : Option StreamState). opened_or o (unopened (is_above id (states s.stream s.opened)) (length (states s.stream s.opened) == most_streams) id)) (looked_none s.stream s.opened id (not_opened s.opened id may))
-    ∙ ap (λ b. unopened b (length (states s.stream s.opened) == most_streams) id) above
+    ap (λ b. if b then WholeConnection else opened_or (state_of id (states s.stream s.opened)) (unopened (is_above id (states s.stream s.opened)) (s.drained || length (states s.stream s.opened) == most_streams) id)) not_zero
+    ∙ ap (λ (o : Option StreamState). opened_or o (unopened (is_above id (states s.stream s.opened)) (s.drained || length (states s.stream s.opened) == most_streams) id)) (looked_none s.stream s.opened id (not_opened s.drained s.opened id may))
+    ∙ ap (λ b. unopened b (s.drained || length (states s.stream s.opened) == most_streams) id) above
+    ∙ ap (λ d. unopened true (d || length (states s.stream s.opened) == most_streams) id) undrained
     ∙ ap (λ b. unopened true b id) not_full
     ∙ ap (λ b. if b then ServerIdle else Idle) not_even
 
@@ -207,7 +214,7 @@ judged_idle : (n kind : ℕ) (b : Bool) → b ≡ false → (if not b then fault
 judged_idle n kind true is none = absurd (let no : true ≡ false = is in cc)
 judged_idle n kind false is none = absurd (cc)
 
-module _ (s : Summary) (noted : Noted) (outline : Outline) (may : may_open s.opened noted.frame.id ≡ true) (closed : opens_by s.opened (completed_in s.block noted.frame) noted.note ≡ false) (on : is_fatal (fault_for outline s (Came noted)) ≡ false)
+module _ (s : Summary) (noted : Noted) (outline : Outline) (may : may_open s.drained s.opened noted.frame.id ≡ true) (closed : opens_by s.drained s.opened (completed_in s.block noted.frame) noted.note ≡ false) (on : is_fatal (fault_for outline s (Came noted)) ≡ false)
     (told : is_some (completed_in s.block noted.frame) ≡ true → is_told noted.note ≡ true) where
   abbrev later_rows : List (Option Fault)
   later_rows =
@@ -228,8 +235,8 @@ module _ (s : Summary) (noted : Noted) (outline : Outline) (may : may_open s.ope
       cases : (block : Option Partial) → completed_in s.block noted.frame ≡ block → (n : Note) → noted.note ≡ n → completed_in s.block noted.frame ≡ None
       cases None is n note = is
       cases (Some block) is (Fields fields) note =
-          let is_open : may_open s.opened block.id ≡ true = ap (λ (id : ℕ). may_open s.opened id) (completed_own s.block noted.frame block is) ∙ may in
-          let isnt : may_open s.opened block.id ≡ false = sym (ap (λ (b : Option Partial). opens_by s.opened b noted.note) is ∙ ap (λ (n : Note). opens_by s.opened (Some block) n) note) ∙ closed in
+          let is_open : may_open s.drained s.opened block.id ≡ true = ap (λ (id : ℕ). may_open s.drained s.opened id) (completed_own s.block noted.frame block is) ∙ may in
+          let isnt : may_open s.drained s.opened block.id ≡ false = sym (ap (λ (b : Option Partial). opens_by s.drained s.opened b noted.note) is ∙ ap (λ (n : Note). opens_by s.drained s.opened (Some block) n) note) ∙ closed in
           absurd (let no : true ≡ false = sym is_open ∙ isnt in cc)
       cases (Some block) is Undecodable note =
           let wrong : Some (Connection compression_error) ≡ None = sym (ap (λ (n : Note). fault_if (is_undecodable n) (Connection compression_error)) note) ∙ none_at 12 (early_rows s noted) early_none in
@@ -270,11 +277,11 @@ module _ (s : Summary) (noted : Noted) (outline : Outline) (may : may_open s.ope
       ap (λ g. first_of (fault_if (active && (g && increment noted.frame == 0)) (Stream protocol_error) ∷ fault_if (active && (g && is_past (window_in s.first_size (s.stream noted.frame.id) +ℤ pos (increment noted.frame)))) (Stream flow_control_error) ∷ [])) last.1
       ∙ ap (λ b. first_of (fault_if b (Stream protocol_error) ∷ fault_if b (Stream flow_control_error) ∷ [])) (and_right active false refl) in
       let data_none : stream_data_in s noted.frame ≡ None =
-      ap (λ d. fault_if (active && (d && int_lt (s.stream noted.frame.id).room (pos (length noted.frame.payload)))) (Stream flow_control_error)) both.0
+      ap (λ d. fault_if (active && (d && int_lt (room_in s.own (s.stream noted.frame.id)) (pos (length noted.frame.payload)))) (Stream flow_control_error)) both.0
       ∙ ap (λ b. fault_if b (Stream flow_control_error)) (and_right active false refl) in
       let last_none : no_goaway_in s noted ≡ None =
-      ap (λ b. fault_if (are_last s (if b then noted.frame.id ∷ s.opened else s.opened) && is_crowded_in s) (Stream enhance_your_calm)) closed
-      ∙ ap (λ b. fault_if (b && is_crowded_in s) (Stream enhance_your_calm)) (neither (length s.opened) most_streams) in
+      ap (λ b. fault_if (are_last s s.drained (if b then noted.frame.id ∷ s.opened else s.opened) && is_crowded_in s) (Stream enhance_your_calm)) closed
+      ∙ ap (λ b. fault_if (b && is_crowded_in s) (Stream enhance_your_calm)) (neither_full s.drained (length s.opened) most_streams) in
       let bears_none : bears s noted.frame ≡ false =
       ap (λ (b : Option Partial). is_some b || noted.frame.kind == data_kind) no_block_here ∙ both.0 in
       record {

@@ -1,7 +1,7 @@
 -- The clause on errors, from whose turn it was: it holds of each tape whose entries stood in their turn, whatever they are.
-use Rattle.std.proofs.Common.{◌≡◌, Bool, true, false, not, ◌&&◌, ◌||◌, ◌⊎◌, ◌==◌, if◌then◌else◌, List, [], ◌∷◌, ◌++◌, map, filter, reverse, Option, Some, None, refl, sym, ◌∙◌, ap, subst, append-nil, append_assoc, inl, inr}
+use Rattle.std.proofs.Common.{◌≡◌, Bool, true, false, not, ◌&&◌, ◌||◌, ◌⊎◌, if◌then◌else◌, List, [], ◌∷◌, ◌++◌, map, filter, reverse, Option, Some, None, refl, sym, ◌∙◌, ap, subst, append-nil, append_assoc, inl, inr}
 use Rattle.std.proofs.lemmas.List.{reverse-append}
-use Rattle.std.proofs.lemmas.Bool.{or_parts, or_left, or_right, and_from, eqb-true, cases_Bool}
+use Rattle.std.proofs.lemmas.Bool.{or_parts, or_left, or_right, and_from}
 use Rattle.model.specs.Frames.{Frame, settings_frame, protocol_error, frame_size_error}
 use Rattle.model.specs.Logs.{Act, Event}
 use Rattle.model.specs.Logs.Act.{Open, ToUp, Close, CloseClient}
@@ -24,7 +24,7 @@ abbrev pub frames_in : List Noted → List Frame
 frames_in noted = map (λ (n : Noted). n.frame) noted
 
 -- At the start the gateway's settings are owed, and nothing else is.
-holds_first : (known : Known) → Holds known [] (settings_frame ∷ [])
+holds_first : (known : Known) → Holds known [] (settings_frame known.setup.more_room ∷ [])
 holds_first known = record {
   begins = ([], refl);
   owing = refl;
@@ -117,10 +117,10 @@ alone_breach known t TooLong = (nothing_besides known t (Breached TooLong) frame
 
 module _ (known : Known) (t : List Entry) (queue : List Frame) (h : Holds known t queue) (may : MayCome known t queue) where
   -- the gateway's settings were the first frame
-  still_begins : (more : List Frame) → (newer : List Frame) × (reverse more ++ frames_in (sent t) ≡ newer ++ settings_frame ∷ [])
+  still_begins : (more : List Frame) → (newer : List Frame) × (reverse more ++ frames_in (sent t) ≡ newer ++ settings_frame known.setup.more_room ∷ [])
   still_begins more =
-      let was : reverse queue ++ frames_in (sent t) ≡ h.begins.0 ++ settings_frame ∷ [] = h.begins.1 in
-      (reverse more ++ h.begins.0, ap (λ fs. reverse more ++ fs) (ap (λ (q : List Frame). reverse q ++ frames_in (sent t)) (sym may.nothing) ∙ was) ∙ sym (append_assoc (reverse more) h.begins.0 (settings_frame ∷ [])))
+      let was : reverse queue ++ frames_in (sent t) ≡ h.begins.0 ++ settings_frame known.setup.more_room ∷ [] = h.begins.1 in
+      (reverse more ++ h.begins.0, ap (λ fs. reverse more ++ fs) (ap (λ (q : List Frame). reverse q ++ frames_in (sent t)) (sym may.nothing) ∙ was) ∙ sym (append_assoc (reverse more) h.begins.0 (settings_frame known.setup.more_room ∷ [])))
 
   -- what the entry calls for is owed, and nothing else is
   still_owing : (more : List Frame) → reverse more ++ controls (sent t) ≡ reverse more ++ owed known t
@@ -269,18 +269,18 @@ stands known t queue noted h on may = record {
         no_notes [] is = refl
         no_notes (note ∷ notes) is = absurd (cc)
 
-    still_begins : (newer : List Frame) × (noted.frame ∷ frames_in (sent t) ≡ newer ++ settings_frame ∷ [])
+    still_begins : (newer : List Frame) × (noted.frame ∷ frames_in (sent t) ≡ newer ++ settings_frame known.setup.more_room ∷ [])
     still_begins =
-        let was = last_of_both (reverse queue) (frames_in (sent t)) h.begins.0 settings_frame some h.begins.1 in
+        let was = last_of_both (reverse queue) (frames_in (sent t)) h.begins.0 (settings_frame known.setup.more_room) some h.begins.1 in
         (noted.frame ∷ was.0, ap (λ fs. noted.frame ∷ fs) was.1)
 
 -- A part of a response, or octets given back, may call for a reset behind it.
 passes : (known : Known) (t : List Entry) (queue : List Frame) (noted : Noted) → Holds known t queue → is_closed t ≡ false → MayPass known t queue noted → Holds known (Sent noted ∷ t) (owed_by known t (Sent noted))
 passes known t queue noted h on may = record {
   begins =
-      let was : reverse queue ++ frames_in (sent t) ≡ h.begins.0 ++ settings_frame ∷ [] = h.begins.1 in
-      let now : frames_in (sent t) ≡ h.begins.0 ++ settings_frame ∷ [] = ap (λ (q : List Frame). reverse q ++ frames_in (sent t)) (sym may.nothing) ∙ was in
-      (reverse more ++ noted.frame ∷ h.begins.0, ap (λ fs. reverse more ++ noted.frame ∷ fs) now ∙ sym (append_assoc (reverse more) (noted.frame ∷ h.begins.0) (settings_frame ∷ [])));
+      let was : reverse queue ++ frames_in (sent t) ≡ h.begins.0 ++ settings_frame known.setup.more_room ∷ [] = h.begins.1 in
+      let now : frames_in (sent t) ≡ h.begins.0 ++ settings_frame known.setup.more_room ∷ [] = ap (λ (q : List Frame). reverse q ++ frames_in (sent t)) (sym may.nothing) ∙ was in
+      (reverse more ++ noted.frame ∷ h.begins.0, ap (λ fs. reverse more ++ noted.frame ∷ fs) now ∙ sym (append_assoc (reverse more) (noted.frame ∷ h.begins.0) (settings_frame known.setup.more_room ∷ [])));
   owing =
       ap (λ b. reverse more ++ map (λ (n : Noted). n.frame) (if not b then noted ∷ control_notes else control_notes)) may.passing
       ∙ ap (λ fs. reverse more ++ fs) (ap (λ (q : List Frame). reverse q ++ controls (sent t)) (sym may.nothing) ∙ h.owing)
@@ -321,10 +321,10 @@ acts known t queue act h closes = record {
   begins = h.begins;
   owing = h.owing ∙ sym (ap (λ (fs : List Frame). reverse fs ++ owed known t) (did_nothing known t act));
   followed = λ behind last.
-      let none : owed_first t (Did act) None ≡ [] = no_goaway t (Did act) refl in
+      let none : owed_first t (Did act) None ≡ [] = no_goaway t (Did act) refl refl in
       (inl (behind ++ reverse queue, sym (ap (λ (fs : List Frame). (behind ++ reverse queue) ++ reverse fs) none ∙ append-nil (behind ++ reverse queue))), h.followed behind last);
   cut = λ last calming on_yet some rest same.
-      let none : owed_first t (Did act) None ≡ [] = no_goaway t (Did act) refl in
+      let none : owed_first t (Did act) None ≡ [] = no_goaway t (Did act) refl refl in
       (inl (last ∷ reverse some, sym (ap (λ (fs : List Frame). (last ∷ reverse some) ++ reverse fs) none ∙ append-nil (last ∷ reverse some))), h.cut last calming on_yet some rest same);
   rightly_sent = h.rightly_sent;
   calm = h.calm;
@@ -380,10 +380,10 @@ none_first (Some Discarded) t e rest none = nothing_before (last_goaway t e) res
 none_newest : (known : Known) (t : List Entry) → queue_of known t ≡ [] → newest_goaway t ≡ []
 none_newest known [] none = refl
 none_newest known (Came noted ∷ t) none = none_first (fault known t (Came noted)) t (Came noted) (later_owed known t (Came noted) (fault known t (Came noted))) none
-none_newest known (Breached breach ∷ t) none = no_goaway t (Breached breach) refl
-none_newest known (Happened event ∷ t) none = no_goaway t (Happened event) refl
-none_newest known (Sent noted ∷ t) none = no_goaway t (Sent noted) refl
-none_newest known (Did act ∷ t) none = no_goaway t (Did act) refl
+none_newest known (Breached breach ∷ t) none = no_goaway t (Breached breach) refl refl
+none_newest known (Happened event ∷ t) none = none_first (fault known t (Happened event)) t (Happened event) (later_owed known t (Happened event) (fault known t (Happened event))) none
+none_newest known (Sent noted ∷ t) none = no_goaway t (Sent noted) refl refl
+none_newest known (Did act ∷ t) none = no_goaway t (Did act) refl refl
 
 -- an act in its turn stands where nothing is owed
 acts_unowed : (known : Known) (t : List Entry) (queue : List Frame) (act : Act) → MayAct known t queue act → queue ≡ []

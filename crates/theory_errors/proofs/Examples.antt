@@ -25,6 +25,10 @@ comes noted = record { entry = Came noted; fails = false }
 abbrev eight : List ℕ
 eight = 1 ∷ 2 ∷ 3 ∷ 4 ∷ 5 ∷ 6 ∷ 7 ∷ 8 ∷ []
 
+-- windows are as at first
+abbrev usual : Setup → Setup
+usual setup = record setup { more_room = 0 }
+
 -- the moves, the newest first
 abbrev run : List Move
 run =
@@ -35,7 +39,7 @@ run =
     ∷ comes (plain ping_kind 0 eight)
     ∷ sends settings_ack
     ∷ comes (plain settings_kind 0 [])
-    ∷ sends settings_frame
+    ∷ sends (settings_frame 0)
     ∷ []
 
 -- a frame without a header block has its note
@@ -43,7 +47,7 @@ no_block : {A : Type 0} → A → false ≡ true → false ≡ true
 no_block a x = x
 
 -- each might come where it came
-run_moved : (setup : Setup) → AllMoved setup run
+run_moved : (setup : Setup) → AllMoved (usual setup) run
 run_moved setup = (
   (
     (
@@ -70,9 +74,9 @@ run_moved setup = (
   record { allowed = record { open_yet = refl; turn = record { nothing = refl; to_end = refl } }; fit = tt },
 )
 
-run_rests : (setup : Setup) → Rests (ledger_of setup run)
+run_rests : (setup : Setup) → Rests (ledger_of (usual setup) run)
 run_rests setup = record { nothing = refl; none_begun = refl; ended = λ ends. refl }
 
 -- The clause on errors holds behind them.
-pub run_holds : (setup : Setup) → ErrorsHold (known_of setup run) (tape_of run)
-run_holds setup = errors_hold_by_book (known_of setup run) run (known_so setup run) (run_moved setup) (run_rests setup)
+pub run_holds : (setup : Setup) → ErrorsHold (known_of (usual setup) run) (tape_of run)
+run_holds setup = errors_hold_by_book (known_of (usual setup) run) run (known_so (usual setup) run) (run_moved setup) (run_rests setup)

@@ -20,7 +20,7 @@ use Rattle.model.specs.ErrorTable.{fault_of, judged, unless_of_stream, grants_no
 use Rattle.model.specs.ErrorClause.{rst_stream, is_calming}
 use Rattle.model.proofs.OpenedLaws.{not_opened}
 use Rattle.theory_errors.specs.Summary.{Outline, Stream as Kept, Summary}
-use Rattle.theory_errors.specs.Judging.{window_in, fault_on_in, is_over_in, active_in, is_active_in, completed_in, fault_by_standing_in, stream_update_in, stream_data_in, no_goaway_in, malformed_in}
+use Rattle.theory_errors.specs.Judging.{window_in, fault_on_in, is_over_in, active_in, is_active_in, completed_in, fault_by_standing_in, stream_update_in, stream_data_in, no_goaway_in, malformed_in, room_in}
 use Rattle.theory_errors.specs.Owing.{highest_in, fault_in, last_goaway_in, owed_first_in, owes_in}
 use Rattle.theory_errors.specs.After.{kept_behind, resets_it, ends_after}
 use Rattle.theory_errors.specs.Turn.{rest_of}
@@ -129,25 +129,25 @@ any_right test (f ∷ fs) gs is = or_right (test f) (list_any test (fs ++ gs)) (
 -- ---- a frame that opens a stream
 
 -- the block that a frame completes, where it opens a stream
-block_there : (opened : List ℕ) (block : Option Partial) (noted : Noted) → opens_by opened block noted.note ≡ true → (b : Partial) × (block ≡ Some b)
-block_there opened None noted by = absurd (let no : false ≡ true = by in cc)
-block_there opened (Some b) noted by = (b, refl)
+block_there : (drained : Bool) (opened : List ℕ) (block : Option Partial) (noted : Noted) → opens_by drained opened block noted.note ≡ true → (b : Partial) × (block ≡ Some b)
+block_there drained opened None noted by = absurd (let no : false ≡ true = by in cc)
+block_there drained opened (Some b) noted by = (b, refl)
 
-module _ (setup : Setup) (fails : Bool) (s : Summary) (noted : Noted) (by : opens_by s.opened (completed_in s.block noted.frame) noted.note ≡ true) (on : ends_after s (Came noted) ≡ false) where
+module _ (setup : Setup) (fails : Bool) (s : Summary) (noted : Noted) (by : opens_by s.drained s.opened (completed_in s.block noted.frame) noted.note ≡ true) (on : ends_after s (Came noted) ≡ false) where
   abbrev outline : Outline
   outline = (s.stream noted.frame.id).outline
 
-  may : may_open s.opened noted.frame.id ≡ true
-  may = opens_own s.opened s.block noted.frame noted.note by
+  may : may_open s.drained s.opened noted.frame.id ≡ true
+  may = opens_own s.drained s.opened s.block noted.frame noted.note by
 
   -- its stream isn't active yet
   inactive : is_active_in noted.frame.id s ≡ false
-  inactive = ap (λ b. b && not (is_over_in (s.stream noted.frame.id))) (not_opened s.opened noted.frame.id may)
+  inactive = ap (λ b. b && not (is_over_in (s.stream noted.frame.id))) (not_opened s.drained s.opened noted.frame.id may)
 
   -- what comes of it by its standing
   by_standing : fault_by_standing_in s noted.frame ≡ fault_of (verdict (length (active_in s)) Idle headers_kind)
   by_standing =
-      let there = block_there s.opened (completed_in s.block noted.frame) noted by in
+      let there = block_there s.drained s.opened (completed_in s.block noted.frame) noted by in
       ap (λ (b : Option Partial). fault_on_in s noted.frame.id (judged b noted.frame)) there.1
       ∙ ap (λ (x : Standing). fault_of (verdict (length (active_in s)) x headers_kind)) (idle_standing s noted.frame.id may)
 
@@ -159,7 +159,7 @@ module _ (setup : Setup) (fails : Bool) (s : Summary) (noted : Noted) (by : open
       ap (λ o. or_else o (malformed_in outline s (Came noted)))
       (skip (early_rows s noted) (unless_of_stream (fault_by_standing_in s noted.frame) ∷ stream_update_in s noted.frame ∷ stream_data_in s noted.frame ∷ fault_by_standing_in s noted.frame ∷ no_goaway_in s noted ∷ []) early_none
       ∙ ap (λ (o : Option Fault). first_of (unless_of_stream o ∷ stream_update_in s noted.frame ∷ stream_data_in s noted.frame ∷ o ∷ no_goaway_in s noted ∷ [])) is
-      ∙ ap (λ b. first_of (first_of (fault_if (b && grants_nothing noted.frame) (Stream protocol_error) ∷ fault_if (b && grants_past (window_in s.first_size (s.stream noted.frame.id)) noted.frame) (Stream flow_control_error) ∷ []) ∷ fault_if (b && is_past_room (s.stream noted.frame.id).room noted.frame) (Stream flow_control_error) ∷ Some (Stream refused_stream) ∷ no_goaway_in s noted ∷ [])) inactive)
+      ∙ ap (λ b. first_of (first_of (fault_if (b && grants_nothing noted.frame) (Stream protocol_error) ∷ fault_if (b && grants_past (window_in s.first_size (s.stream noted.frame.id)) noted.frame) (Stream flow_control_error) ∷ []) ∷ fault_if (b && is_past_room (room_in s.own (s.stream noted.frame.id)) noted.frame) (Stream flow_control_error) ∷ Some (Stream refused_stream) ∷ no_goaway_in s noted ∷ [])) inactive)
 
   -- then its reset is owed
   reset_owed : nat_lt (length (active_in s)) most_active ≡ false → list_any (resets_it noted.frame.id) (owes_in setup fails s (Came noted)) ≡ true
@@ -222,12 +222,12 @@ still_owed s noted queue more setup fails calmless (inl due) id on none = ap (λ
     or_both = ap (λ b. b || list_any (resets_it id) (rest_of queue)) not_it ∙ none_left
 
 few_kept : (setup : Setup) (p : Point) (e : Entry) (fails : Bool) → IsInTurn p e → ends_after p.summary e ≡ false → IsFew p → IsFew (point_after setup p (record { entry = e; fails = fails }))
-few_kept setup p (Came noted) fails turn on few = cases (opens_by p.summary.opened (completed_in p.summary.block noted.frame) noted.note) refl
+few_kept setup p (Came noted) fails turn on few = cases (opens_by p.summary.drained p.summary.opened (completed_in p.summary.block noted.frame) noted.note) refl
   where
     few_here : length (filter (lasts p.summary.stream []) p.summary.opened) ≤ most_active
     few_here = few_at p.summary p.queue turn.nothing few
 
-    cases : (b : Bool) → opens_by p.summary.opened (completed_in p.summary.block noted.frame) noted.note ≡ b → length (filter (lasts (behind setup fails p.summary (Came noted)) (owes_in setup fails p.summary (Came noted))) (if b then noted.frame.id ∷ p.summary.opened else p.summary.opened)) ≤ most_active
+    cases : (b : Bool) → opens_by p.summary.drained p.summary.opened (completed_in p.summary.block noted.frame) noted.note ≡ b → length (filter (lasts (behind setup fails p.summary (Came noted)) (owes_in setup fails p.summary (Came noted))) (if b then noted.frame.id ∷ p.summary.opened else p.summary.opened)) ≤ most_active
     cases true by = few_opened setup fails p.summary noted by on few_here
     cases false by = let less = lasted setup fails p.summary (Came noted) [] (owes_in setup fails p.summary (Came noted)) (λ id on_yet none. refl) in omega (arith, less, few_here)
 few_kept setup p (Breached breach) fails turn on few = absurd (let no : true ≡ false = on in cc)

@@ -1,9 +1,9 @@
 -- A GOAWAY that asks the client to be calm is no part of a response; and where too many octets are untaken something was sent.
-use Rattle.std.proofs.Common.{◌≡◌, ℕ, ◌+◌, ◌-◌, Bool, true, false, ◌&&◌, ◌||◌, ◌==◌, List, [], ◌∷◌, ◌++◌, refl, sym, ◌∙◌, ap, arith}
+use Rattle.std.proofs.Common.{◌≡◌, ℕ, Bool, true, false, ◌&&◌, ◌||◌, ◌==◌, List, [], ◌∷◌, ◌++◌, refl, sym, ◌∙◌, ap, arith}
 use Rattle.std.proofs.lemmas.Bool.{ltb-true, eqb-true}
 use Rattle.std.specs.Prelude.{drop, bytes_eq}
 use Rattle.model.specs.Frames.{Frame, data_kind, headers_kind, continuation_kind, window_update_kind, goaway_kind, goaway, spell_number, enhance_your_calm}
-use Rattle.model.specs.Logs.Event.{Client, ClientEnd, ClientTook, Up, UpEnd, UpFailed, UpTook}
+use Rattle.model.specs.Logs.Event.{Client, ClientEnd, ClientTook, Up, UpEnd, UpFailed, UpTook, Drain}
 use Rattle.model.specs.Tapes.{Noted, Entry, sent}
 use Rattle.model.specs.Tapes.Entry.{Came, Breached, Happened, Sent, Did}
 use Rattle.model.specs.Admission.{untaken, is_crowded}
@@ -30,6 +30,7 @@ none_untaken (Happened (Up k piece) ∷ t) none = none_untaken t none
 none_untaken (Happened (UpEnd k) ∷ t) none = none_untaken t none
 none_untaken (Happened (UpFailed k) ∷ t) none = none_untaken t none
 none_untaken (Happened (UpTook k count) ∷ t) none = none_untaken t none
+none_untaken (Happened Drain ∷ t) none = none_untaken t none
 none_untaken (Sent noted ∷ t) none = absurd (cc)
 none_untaken (Did act ∷ t) none = none_untaken t none
 

@@ -5,7 +5,7 @@ use Rattle.std.proofs.lemmas.List.Folds.{list_any-append}
 use Rattle.std.specs.List.{list_any}
 use Rattle.std.specs.Prelude.{ℤ, pos, ◌+ℤ◌, ◌-ℤ◌, is_none}
 use Rattle.model.specs.Frames.{Frame}
-use Rattle.model.specs.Logs.Event.{Client, ClientEnd, ClientTook, Up, UpEnd, UpFailed, UpTook}
+use Rattle.model.specs.Logs.Event.{Client, ClientEnd, ClientTook, Up, UpEnd, UpFailed, UpTook, Drain}
 use Rattle.model.specs.Logs.Act.{Open, ToUp, Close, CloseClient}
 use Rattle.model.specs.Admission.{untaken}
 use Rattle.model.specs.Errors.{has_come}
@@ -28,7 +28,7 @@ use Rattle.model.specs.ErrorClause.{is_fatal, calls_for_end}
 use Rattle.theory_errors.specs.Summary.{Stream, Summary, summary_of, stream_of}
 use Rattle.theory_errors.specs.After.{has_come_after, block_after, continuations_after, block_out_after, are_taken_in, first_size_after, grant, window_after, room_after, given_after, last_after, ends_after, resets_after, closed_after, untaken_after, ended_by_client_after, ended_by_gateway_after, reset_by_client_after, reset_by_gateway_after, head_out_after, kept_behind, after}
 use Rattle.theory_errors.proofs.Outlines.{outline_kept}
-use Rattle.theory_errors.proofs.Owed.{fault_same, opened_same}
+use Rattle.theory_errors.proofs.Owed.{fault_same, opened_same, drained_same}
 
 -- ---- by computation
 
@@ -87,6 +87,7 @@ ends_kept known t (Happened (Up k piece)) = refl
 ends_kept known t (Happened (UpEnd k)) = refl
 ends_kept known t (Happened (UpFailed k)) = refl
 ends_kept known t (Happened (UpTook k count)) = refl
+ends_kept known t (Happened Drain) = refl
 ends_kept known t (Sent noted) = refl
 ends_kept known t (Did act) = refl
 
@@ -117,6 +118,7 @@ untaken_kept t (Happened (Up k piece)) = refl
 untaken_kept t (Happened (UpEnd k)) = refl
 untaken_kept t (Happened (UpFailed k)) = refl
 untaken_kept t (Happened (UpTook k count)) = refl
+untaken_kept t (Happened Drain) = refl
 untaken_kept t (Sent noted) = refl
 untaken_kept t (Did act) = refl
 
@@ -167,12 +169,12 @@ window_kept known t size sized test id (Happened event) = refl
 window_kept known t size sized test id (Sent noted) = sized.1 (increments id (sound t)) (data_octets test (sent t)) (data_length test noted.frame)
 window_kept known t size sized test id (Did act) = refl
 
-room_kept : (t : List Entry) (test : ℕ → Bool) (id : ℕ) (e : Entry) → room_after (sending_window first_window (increments id (sent t)) (data_octets test (came t))) test id e ≡ sending_window first_window (increments id (sent (e ∷ t))) (data_octets test (came (e ∷ t)))
-room_kept t test id (Came noted) = window_sized.1 (increments id (sent t)) (data_octets test (came t)) (data_length test noted.frame)
-room_kept t test id (Breached breach) = refl
-room_kept t test id (Happened event) = refl
-room_kept t test id (Sent noted) = window_sized.0 (increments id (sent t)) (grant id noted.frame) (data_octets test (came t))
-room_kept t test id (Did act) = refl
+room_kept : (t : List Entry) (size : ℕ → ℕ → ℤ) → IsSized size → (test : ℕ → Bool) (id : ℕ) (e : Entry) → room_after (size (increments id (sent t)) (data_octets test (came t))) test id e ≡ size (increments id (sent (e ∷ t))) (data_octets test (came (e ∷ t)))
+room_kept t size sized test id (Came noted) = sized.1 (increments id (sent t)) (data_octets test (came t)) (data_length test noted.frame)
+room_kept t size sized test id (Breached breach) = refl
+room_kept t size sized test id (Happened event) = refl
+room_kept t size sized test id (Sent noted) = sized.0 (increments id (sent t)) (grant id noted.frame) (data_octets test (came t))
+room_kept t size sized test id (Did act) = refl
 
 -- ---- a stream
 
@@ -222,7 +224,7 @@ stream_kept known t e id =
     ∙ ap (λ x. record now { reset_by_client = x; reset_by_gateway = made.reset_by_gateway; balance = made.balance; room = made.room; head_out = made.head_out; outline = made.outline }) (reset_by_client_kept known t id e)
     ∙ ap (λ x. record now { reset_by_gateway = x; balance = made.balance; room = made.room; head_out = made.head_out; outline = made.outline }) (reset_by_gateway_kept known t id e)
     ∙ ap (λ x. record now { balance = x; room = made.room; head_out = made.head_out; outline = made.outline }) (window_kept known t balance balance_sized (is_on id) id e)
-    ∙ ap (λ x. record now { room = x; head_out = made.head_out; outline = made.outline }) (room_kept t (is_on id) id e)
+    ∙ ap (λ x. record now { room = x; head_out = made.head_out; outline = made.outline }) (room_kept t balance balance_sized (is_on id) id e)
     ∙ ap (λ x. record now { head_out = x; outline = made.outline }) (head_out_kept known t id e)
     ∙ ap (λ x. record now { outline = x }) (outline_kept known t id e)
 
@@ -238,8 +240,9 @@ summary_kept known t e =
     ∙ ap (λ x. record made { has_come = now.has_come; block = now.block; continuations = x }) (continuations_kept t e)
     ∙ ap (λ x. record made { has_come = now.has_come; block = now.block; continuations = now.continuations; block_out = x }) (block_out_kept t e)
     ∙ ap (λ x. record made { has_come = now.has_come; block = now.block; continuations = now.continuations; block_out = now.block_out; first_size = x }) (first_size_kept known t e)
-    ∙ ap (λ x. record now { window = x; room = made.room; opened = made.opened; stream = made.stream; resets = made.resets; given = made.given; last = made.last; ends = made.ends; closed = made.closed; untaken = made.untaken }) (window_kept known t (sending_window first_window) window_sized is_any 0 e)
-    ∙ ap (λ x. record now { room = x; opened = made.opened; stream = made.stream; resets = made.resets; given = made.given; last = made.last; ends = made.ends; closed = made.closed; untaken = made.untaken }) (room_kept t is_any 0 e)
+    ∙ ap (λ x. record now { window = x; room = made.room; drained = made.drained; opened = made.opened; stream = made.stream; resets = made.resets; given = made.given; last = made.last; ends = made.ends; closed = made.closed; untaken = made.untaken }) (window_kept known t (sending_window first_window) window_sized is_any 0 e)
+    ∙ ap (λ x. record now { room = x; drained = made.drained; opened = made.opened; stream = made.stream; resets = made.resets; given = made.given; last = made.last; ends = made.ends; closed = made.closed; untaken = made.untaken }) (room_kept t (sending_window first_window) window_sized is_any 0 e)
+    ∙ ap (λ x. record now { drained = x; opened = made.opened; stream = made.stream; resets = made.resets; given = made.given; last = made.last; ends = made.ends; closed = made.closed; untaken = made.untaken }) (drained_same t e)
     ∙ ap (λ x. record now { opened = x; stream = made.stream; resets = made.resets; given = made.given; last = made.last; ends = made.ends; closed = made.closed; untaken = made.untaken }) (opened_same known t e)
     ∙ ap (λ x. record now { stream = x; resets = made.resets; given = made.given; last = made.last; ends = made.ends; closed = made.closed; untaken = made.untaken }) (λ i id. stream_kept known t e id i)
     ∙ ap (λ x. record now { resets = x; given = made.given; last = made.last; ends = made.ends; closed = made.closed; untaken = made.untaken }) (resets_kept known t e)

@@ -2,6 +2,7 @@
 use Rattle.std.proofs.Common.{◌≡◌, ℕ, ◌+◌, Bool, true, false, ◌&&◌, ◌||◌, ◌==◌, nat_lt, if◌then◌else◌, List, [], ◌∷◌, ◌++◌, length, length-append, Option, Some, None, refl, ◌∙◌, ap, arith}
 use Rattle.std.specs.Prelude.{is_some}
 use Rattle.std.specs.List.{list_any}
+use Rattle.model.specs.Setup.{own_window}
 use Rattle.model.specs.Messages.{Item, ends_with}
 use Rattle.model.specs.Messages.Item.{Block, Content}
 use Rattle.model.specs.Http2.{body_of}
@@ -96,7 +97,7 @@ pub outline_kept : (known : Known) (t : List Entry) (stream : ℕ) (e : Entry) �
 outline_kept known t stream e =
     let s : Summary = summary_of known t in
     let c : Course = course known stream t in
-    let found : Option Fault = fault_with (carried c) t e in
+    let found : Option Fault = fault_with (own_window known.setup) (carried c) t e in
     let cause : Option Cause = new_cause known stream t e c found in
     ap (λ (f : Option Fault). let x = new_cause_in known.setup (fails_behind known t) stream s e (outline_of c) f in outline_behind (outline_of c) (interrupts stream e f x) (items_in stream s e) x (list_any is_final (items_on stream (sent t)))) (fault_for_same known t c e)
     ∙ ap (λ (x : Option Cause). outline_behind (outline_of c) (interrupts stream e found x) (items_in stream s e) x (list_any is_final (items_on stream (sent t)))) (new_cause_same known t stream c e found)

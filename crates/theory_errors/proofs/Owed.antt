@@ -1,5 +1,5 @@
 -- What an entry calls for over the summary of a tape is what the model says that it calls for.
-use Rattle.std.proofs.Common.{◌≡◌, ℕ, ◌&&◌, ◌==◌, nat_lt, if◌then◌else◌, List, [], ◌∷◌, ◌++◌, length, Option, Some, None, refl, ◌∙◌, ap}
+use Rattle.std.proofs.Common.{◌≡◌, ℕ, ◌&&◌, ◌==◌, nat_lt, if◌then◌else◌, List, [], ◌∷◌, ◌++◌, length, Option, Some, None, refl, ◌∙◌, ap, not, ◌||◌}
 use Rattle.model.specs.Frames.{Frame, goaway, no_error}
 use Rattle.model.specs.Tapes.{Entry}
 use Rattle.model.specs.Tapes.Entry.{Came, Breached, Happened, Sent, Did}
@@ -7,11 +7,11 @@ use Rattle.model.specs.Limits.{most_streams}
 use Rattle.model.specs.Errors.{Fault}
 use Rattle.model.specs.Errors.Fault.{Connection, Stream, Discarded}
 use Rattle.model.specs.Known.{Known, fails_behind}
-use Rattle.model.specs.Lifetimes.{opened}
+use Rattle.model.specs.Lifetimes.{opened, is_drained}
 use Rattle.model.specs.Courses.{course, about, fault}
 use Rattle.model.specs.ErrorClause.{last_goaway, owed_first, acks, reset_for, resets, reset_behind, rst_stream, code_of_goaway, owed_by, is_rightly_sent, must_end}
 use Rattle.theory_errors.specs.Summary.{Outline, Summary, summary_of}
-use Rattle.theory_errors.specs.Owing.{about_in, fault_in, next_outline, opened_after, highest_in, last_goaway_in, owed_first_in, resets_in, reset_behind_in, owes_in, is_rightly_sent_in, must_end_in}
+use Rattle.theory_errors.specs.Owing.{about_in, fault_in, next_outline, opened_after, highest_in, last_goaway_in, owed_first_in, resets_in, reset_behind_in, owes_in, is_rightly_sent_in, must_end_in, drained_after}
 use Rattle.theory_errors.proofs.Judged.{fault_for_same}
 use Rattle.theory_errors.proofs.Outlines.{outline_kept}
 
@@ -37,9 +37,17 @@ opened_same known t (Happened event) = refl
 opened_same known t (Sent noted) = refl
 opened_same known t (Did act) = refl
 
+pub drained_same : (t : List Entry) (e : Entry) → drained_after (is_drained t) e ≡ is_drained (e ∷ t)
+drained_same t (Came noted) = refl
+drained_same t (Breached breach) = refl
+drained_same t (Happened event) = refl
+drained_same t (Sent noted) = refl
+drained_same t (Did act) = refl
+
 goaway_same : (known : Known) (t : List Entry) (e : Entry) → last_goaway_in (summary_of known t) e ≡ last_goaway t e
 goaway_same known t e =
-    ap (λ (ids : List ℕ). if nat_lt (length (opened t)) most_streams && length ids == most_streams then goaway (highest_in ids) no_error ∷ [] else []) (opened_same known t e)
+    ap (λ (ids : List ℕ). if not (is_drained t) && nat_lt (length (opened t)) most_streams && (drained_after (is_drained t) e || length ids == most_streams) then goaway (highest_in ids) no_error ∷ [] else []) (opened_same known t e)
+    ∙ ap (λ b. if not (is_drained t) && nat_lt (length (opened t)) most_streams && (b || length (opened (e ∷ t)) == most_streams) then goaway (highest_in (opened (e ∷ t))) no_error ∷ [] else []) (drained_same t e)
 
 first_same : (known : Known) (t : List Entry) (e : Entry) (found : Option Fault) → owed_first_in (summary_of known t) e found ≡ owed_first t e found
 first_same known t e None = goaway_same known t e

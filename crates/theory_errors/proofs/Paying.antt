@@ -1,5 +1,5 @@
 -- A control frame that is owed: it may be sent, and then it is owed no more, and nothing else changes but what is untaken.
-use Rattle.std.proofs.Common.{◌≡◌, ℕ, Bool, true, false, not, ◌&&◌, ◌||◌, ◌==◌, nat_lt, if◌then◌else◌, List, [], ◌∷◌, ◌++◌, length, append-nil, Option, None, refl, sym, ◌∙◌, ap, inl, inr}
+use Rattle.std.proofs.Common.{◌≡◌, ℕ, true, false, not, ◌&&◌, ◌||◌, ◌==◌, nat_lt, if◌then◌else◌, List, [], ◌∷◌, ◌++◌, length, append-nil, Option, None, refl, sym, ◌∙◌, ap, inl, inr}
 use Rattle.std.proofs.lemmas.Bool.{and_right}
 use Rattle.std.proofs.Math.Bool.{or-false}
 use Rattle.std.specs.List.{list_any}
@@ -99,7 +99,7 @@ module _ (setup : Setup) (b : Book) (frame : Frame) (control : IsControl frame) 
 
 -- Any frame that is owed may be sent, unless it is on a stream that may be opened yet: but where too many octets are untaken only a GOAWAY that asks
 -- the client to be calm, and that only where the connection is to end.
-pub may_pay : (b : Book) (frame : Frame) → is_passing (noted_of frame) ≡ false → (queue : List Frame) → b.closed ≡ false → may_open (summary_in b).opened frame.id ≡ false
+pub may_pay : (b : Book) (frame : Frame) → is_passing (noted_of frame) ≡ false → (queue : List Frame) → b.closed ≡ false → may_open (summary_in b).drained (summary_in b).opened frame.id ≡ false
     → (is_calming frame && not b.ends) ≡ false → (is_crowded_in (summary_in b) && not (is_calming frame)) ≡ false → MayMove (record { book = b; queue = frame ∷ queue }) (sends frame)
 may_pay b frame control queue open_yet apart owing calm = record {
   allowed = record { open_yet = open_yet; turn = inl (record { front = refl; control = control; owing = owing; calm = calm }) };

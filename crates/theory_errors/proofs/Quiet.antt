@@ -23,7 +23,7 @@ use Rattle.model.specs.Causes.{Cause}
 use Rattle.model.specs.Courses.{first_of_both}
 use Rattle.model.specs.ErrorClause.{acks, is_fatal, reset_for}
 use Rattle.theory_errors.specs.Summary.{Outline, Stream as Kept, Summary}
-use Rattle.theory_errors.specs.Judging.{completed_in, fault_for, malformed_in, rows_in, fault_on_in, fault_by_standing_in, continuations_in, shifts_past_in, standing_in, is_active_in, window_in, is_crowded_in, are_last}
+use Rattle.theory_errors.specs.Judging.{completed_in, fault_for, malformed_in, rows_in, fault_on_in, fault_by_standing_in, continuations_in, shifts_past_in, standing_in, is_active_in, window_in, is_crowded_in, are_last, room_in}
 use Rattle.theory_errors.specs.Owing.{owed_first_in, highest_in, new_cause_in, outline_from, owes_in, resets_in}
 use Rattle.theory_errors.specs.After.{is_sound, grant, stream_from, begun_after}
 use Rattle.theory_errors.specs.Rows.{Row, Slot, kept_in, slot_of, find, row_behind, row_opened, rows_after, over_kept}
@@ -33,7 +33,7 @@ use Rattle.theory_errors.specs.Tidy.{IsSteady, IsTidy, IsRow, AreKept}
 use Rattle.theory_errors.specs.Quiet.{IsQuiet, IsInOrder, noted_of, coming, heard}
 use Rattle.theory_errors.proofs.Elsewhere.{kept_same, course_same, none_more, none_less, over_again}
 use Rattle.theory_errors.proofs.Idle.{no_cause_if}
-use Rattle.model.proofs.OwedSteps.{neither, no_reset_for}
+use Rattle.model.proofs.OwedSteps.{neither_full, no_reset_for}
 use Rattle.theory_errors.proofs.Seen.{idle_frame, idle_cause}
 use Rattle.theory_errors.proofs.Turns.{completes_none}
 use Rattle.theory_errors.proofs.Wanted.{bears}
@@ -57,9 +57,9 @@ all_stay f (row ∷ rows) kept stays = ap (λ (r : Row). r ∷ map f rows) (stay
 
 -- two books with the same parts
 pub same_book : (a b : Book) → a.has_come ≡ b.has_come → a.block ≡ b.block → a.continuations ≡ b.continuations → a.block_out ≡ b.block_out → a.first_size ≡ b.first_size → a.window ≡ b.window → a.room ≡ b.room → a.rows ≡ b.rows → a.resets ≡ b.resets → a.ends ≡ b.ends
-    → record a { given = b.given; last = b.last; closed = b.closed; untaken = b.untaken } ≡ b
+    → record a { own = b.own; drained = b.drained; given = b.given; last = b.last; closed = b.closed; untaken = b.untaken } ≡ b
 same_book a b has_come block continuations block_out first_size window room rows resets ends =
-    ap (λ x. record a { has_come = x; given = b.given; last = b.last; closed = b.closed; untaken = b.untaken }) has_come
+    ap (λ x. record a { has_come = x; own = b.own; drained = b.drained; given = b.given; last = b.last; closed = b.closed; untaken = b.untaken }) has_come
     ∙ ap (λ x. record b { block = x; continuations = a.continuations; block_out = a.block_out; first_size = a.first_size; window = a.window; room = a.room; rows = a.rows; resets = a.resets; ends = a.ends }) block
     ∙ ap (λ x. record b { continuations = x; block_out = a.block_out; first_size = a.first_size; window = a.window; room = a.room; rows = a.rows; resets = a.resets; ends = a.ends }) continuations
     ∙ ap (λ x. record b { block_out = x; first_size = a.first_size; window = a.window; room = a.room; rows = a.rows; resets = a.resets; ends = a.ends }) block_out
@@ -127,10 +127,10 @@ module _ (s : Summary) (frame : Frame) (quiet : IsQuiet frame) (order : IsInOrde
       ∙ skip _ _ (ap unless_of_stream judged_none)
       ∙ skip _ _ (ap (λ b. first_of (fault_if (is_active_in frame.id s && (b && increment frame == 0)) (Stream protocol_error) ∷ fault_if (is_active_in frame.id s && (b && is_past (window_in s.first_size (s.stream frame.id) +ℤ pos (increment frame)))) (Stream flow_control_error) ∷ [])) quiet.control.no_update
       ∙ both_none (is_active_in frame.id s) (increment frame == 0) (is_past (window_in s.first_size (s.stream frame.id) +ℤ pos (increment frame))) (Stream protocol_error) (Stream flow_control_error))
-      ∙ skip _ _ (no_fault_if _ _ (ap (λ b. is_active_in frame.id s && (b && int_lt (s.stream frame.id).room (pos (length frame.payload)))) quiet.control.no_data ∙ and_right (is_active_in frame.id s) false refl))
+      ∙ skip _ _ (no_fault_if _ _ (ap (λ b. is_active_in frame.id s && (b && int_lt (room_in s.own (s.stream frame.id)) (pos (length frame.payload)))) quiet.control.no_data ∙ and_right (is_active_in frame.id s) false refl))
       ∙ skip _ _ judged_none
-      ∙ skip _ _ (no_fault_if _ _ (ap (λ (block : Option Partial). are_last s (if opens_by s.opened block NoBlock then frame.id ∷ s.opened else s.opened) && is_crowded_in s) completes
-      ∙ ap (λ b. b && is_crowded_in s) (neither (length s.opened) most_streams)))
+      ∙ skip _ _ (no_fault_if _ _ (ap (λ (block : Option Partial). are_last s s.drained (if opens_by s.drained s.opened block NoBlock then frame.id ∷ s.opened else s.opened) && is_crowded_in s) completes
+      ∙ ap (λ b. b && is_crowded_in s) (neither_full s.drained (length s.opened) most_streams)))
 
   -- It has no fault, whatever its stream carried.
   pub fault_none : (outline : Outline) → fault_for outline s (coming frame) ≡ None
@@ -182,7 +182,7 @@ module _ (setup : Setup) (s : Summary) (frame : Frame) (quiet : IsQuiet frame) (
   pub rows_same : (rows : List Row) → AreKept rows → rows_after setup false s (coming frame) rows ≡ rows
   rows_same rows kept =
       let all : List Row = map (row_behind setup false s (coming frame)) rows in
-      ap (λ (block : Option Partial). if opens_by s.opened block NoBlock then row_opened setup false s (coming frame) frame.id ∷ all else all) none
+      ap (λ (block : Option Partial). if opens_by s.drained s.opened block NoBlock then row_opened setup false s (coming frame) frame.id ∷ all else all) none
       ∙ all_stay (row_behind setup false s (coming frame)) rows kept row_same
 
   -- no stream is reset for it
@@ -216,7 +216,7 @@ module _ (setup : Setup) (b : Book) (frame : Frame) (quiet : IsQuiet frame) (ord
       let s : Summary = summary_in b in
       let resets : List Frame = resets_in setup false s (coming frame) in
       ap (λ (x : Option Fault). owed_first_in s (coming frame) x ++ (acks (coming frame) x ++ (resets ++ []))) (fault_none s frame quiet order (find b.rows frame.id).outline)
-      ∙ ap (λ (x : List ℕ). (if nat_lt (length s.opened) most_streams && length x == most_streams then goaway (highest_in x) no_error ∷ [] else []) ++ (acks (coming frame) None ++ (resets ++ []))) (ap (λ (block : Option Partial). if opens_by s.opened block NoBlock then frame.id ∷ s.opened else s.opened) (completes s frame quiet order))
-      ∙ ap (λ x. (if x then goaway (highest_in s.opened) no_error ∷ [] else []) ++ (acks (coming frame) None ++ (resets ++ []))) (neither (length s.opened) most_streams)
+      ∙ ap (λ (x : List ℕ). (if not s.drained && nat_lt (length s.opened) most_streams && (s.drained || length x == most_streams) then goaway (highest_in x) no_error ∷ [] else []) ++ (acks (coming frame) None ++ (resets ++ []))) (ap (λ (block : Option Partial). if opens_by s.drained s.opened block NoBlock then frame.id ∷ s.opened else s.opened) (completes s frame quiet order))
+      ∙ ap (λ x. (if x then goaway (highest_in s.opened) no_error ∷ [] else []) ++ (acks (coming frame) None ++ (resets ++ []))) (neither_full s.drained (length s.opened) most_streams)
       ∙ ap (λ (fs : List Frame). acks (coming frame) None ++ (fs ++ [])) (resets_none setup s frame quiet order)
       ∙ append-nil (acks (coming frame) None)

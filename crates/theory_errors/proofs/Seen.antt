@@ -208,7 +208,7 @@ module _ (setup : Setup) (fails : Bool) (f : ℕ → Kept) (s : Summary) (will :
 
   -- Whether the connection is to end, and what may be sent.
   pub end_seen : must_end_in view ≡ must_end_in s
-  end_seen = ap (λ (ids : List ℕ). s.ends || length s.opened == most_streams && length ids == 0) (active_same f s will)
+  end_seen = ap (λ (ids : List ℕ). s.ends || (s.drained || length s.opened == most_streams) && length ids == 0) (active_same f s will)
 
   given_back_seen : (frame : Frame) → is_given_back_in view frame ≡ is_given_back_in s frame
   given_back_seen frame =

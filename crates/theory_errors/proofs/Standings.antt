@@ -79,30 +79,30 @@ state_idle otherwise f g (other ∷ ids) id = cases (other == id) (state_idle ot
     cases false rest = rest
 
 -- what stands for an id that wasn't opened
-unopened_same : (f g : ℕ → Kept) (ids : List ℕ) (id : ℕ) → unopened (is_above id (states f ids)) (length (states f ids) == most_streams) id ≡ unopened (is_above id (states g ids)) (length (states g ids) == most_streams) id
-unopened_same f g ids id =
-    ap (λ b. unopened b (length (states f ids) == most_streams) id) (above_same f g ids id)
-    ∙ ap (λ n. unopened (is_above id (states g ids)) (n == most_streams) id) (count_same f g ids)
+unopened_same : (drained : Bool) (f g : ℕ → Kept) (ids : List ℕ) (id : ℕ) → unopened (is_above id (states f ids)) (drained || length (states f ids) == most_streams) id ≡ unopened (is_above id (states g ids)) (drained || length (states g ids) == most_streams) id
+unopened_same drained f g ids id =
+    ap (λ b. unopened b (drained || length (states f ids) == most_streams) id) (above_same f g ids id)
+    ∙ ap (λ n. unopened (is_above id (states g ids)) (drained || n == most_streams) id) (count_same f g ids)
 
-pub standing_verdict : (n kind : ℕ) (f g : ℕ → Kept) (ids : List ℕ) → AreAlike f g ids → (id : ℕ) → verdict n (standing (states f ids) id) kind ≡ verdict n (standing (states g ids) id) kind
-standing_verdict n kind f g ids alike id = cases (id == 0)
+pub standing_verdict : (drained : Bool) (n kind : ℕ) (f g : ℕ → Kept) (ids : List ℕ) → AreAlike f g ids → (id : ℕ) → verdict n (standing drained (states f ids) id) kind ≡ verdict n (standing drained (states g ids) id) kind
+standing_verdict drained n kind f g ids alike id = cases (id == 0)
   where
-    cases : (b : Bool) → verdict n (if b then WholeConnection else opened_or (state_of id (states f ids)) (unopened (is_above id (states f ids)) (length (states f ids) == most_streams) id)) kind
-        ≡ verdict n (if b then WholeConnection else opened_or (state_of id (states g ids)) (unopened (is_above id (states g ids)) (length (states g ids) == most_streams) id)) kind
+    cases : (b : Bool) → verdict n (if b then WholeConnection else opened_or (state_of id (states f ids)) (unopened (is_above id (states f ids)) (drained || length (states f ids) == most_streams) id)) kind
+        ≡ verdict n (if b then WholeConnection else opened_or (state_of id (states g ids)) (unopened (is_above id (states g ids)) (drained || length (states g ids) == most_streams) id)) kind
     cases true = refl
     cases false =
-        ap (λ (other : Standing). verdict n (opened_or (state_of id (states f ids)) other) kind) (unopened_same f g ids id)
-        ∙ state_verdict n kind (unopened (is_above id (states g ids)) (length (states g ids) == most_streams) id) f g ids alike id
+        ap (λ (other : Standing). verdict n (opened_or (state_of id (states f ids)) other) kind) (unopened_same drained f g ids id)
+        ∙ state_verdict n kind (unopened (is_above id (states g ids)) (drained || length (states g ids) == most_streams) id) f g ids alike id
 
-pub standing_idle : (f g : ℕ → Kept) (ids : List ℕ) (id : ℕ) → is_idle (standing (states f ids) id) ≡ is_idle (standing (states g ids) id)
-standing_idle f g ids id = cases (id == 0)
+pub standing_idle : (drained : Bool) (f g : ℕ → Kept) (ids : List ℕ) (id : ℕ) → is_idle (standing drained (states f ids) id) ≡ is_idle (standing drained (states g ids) id)
+standing_idle drained f g ids id = cases (id == 0)
   where
-    cases : (b : Bool) → is_idle (if b then WholeConnection else opened_or (state_of id (states f ids)) (unopened (is_above id (states f ids)) (length (states f ids) == most_streams) id))
-        ≡ is_idle (if b then WholeConnection else opened_or (state_of id (states g ids)) (unopened (is_above id (states g ids)) (length (states g ids) == most_streams) id))
+    cases : (b : Bool) → is_idle (if b then WholeConnection else opened_or (state_of id (states f ids)) (unopened (is_above id (states f ids)) (drained || length (states f ids) == most_streams) id))
+        ≡ is_idle (if b then WholeConnection else opened_or (state_of id (states g ids)) (unopened (is_above id (states g ids)) (drained || length (states g ids) == most_streams) id))
     cases true = refl
     cases false =
-        ap (λ (other : Standing). is_idle (opened_or (state_of id (states f ids)) other)) (unopened_same f g ids id)
-        ∙ state_idle (unopened (is_above id (states g ids)) (length (states g ids) == most_streams) id) f g ids id
+        ap (λ (other : Standing). is_idle (opened_or (state_of id (states f ids)) other)) (unopened_same drained f g ids id)
+        ∙ state_idle (unopened (is_above id (states g ids)) (drained || length (states g ids) == most_streams) id) f g ids id
 
 -- ---- active streams
 

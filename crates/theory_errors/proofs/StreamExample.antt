@@ -22,7 +22,7 @@ use Rattle.theory_errors.proofs.Book.{errors_hold_by_book}
 
 -- one route for all, and bodies of a megabyte
 abbrev setup : Setup
-setup = record { routes = record { authority = []; path = codes "/" } ∷ []; policy = Plain; passing = Whole; max_body = 1048576; max_response = 1048576; keep = false; most_idle = 8 }
+setup = record { routes = record { authority = []; path = codes "/" } ∷ []; policy = Plain; passing = Whole; max_body = 1048576; max_response = 1048576; keep = false; most_idle = 8; more_room = 0 }
 
 abbrev frame : ℕ → ℕ → ℕ → List ℕ → Frame
 frame kind flags id payload = record { kind = kind; flags = flags; id = id; payload = payload }
@@ -54,7 +54,7 @@ run =
     ∷ comes (record { frame = frame headers_kind 4 1 []; note = Fields post })
     ∷ sends (plain settings_ack)
     ∷ comes (plain (frame settings_kind 0 0 []))
-    ∷ sends (plain settings_frame)
+    ∷ sends (plain (settings_frame 0))
     ∷ []
 
 -- a frame without a header block has its note, and so has one with it

@@ -1,5 +1,5 @@
 -- Rows hold what they should behind any entries; and a connection that rests and isn't closed goes on.
-use Rattle.std.proofs.Common.{◌≡◌, ℕ, ◌%◌, Bool, true, false, ◌&&◌, ◌==◌, nat_lt, if◌then◌else◌, List, [], ◌∷◌, map, length, refl, sym, ◌∙◌, ap}
+use Rattle.std.proofs.Common.{◌≡◌, ℕ, ◌%◌, Bool, true, false, ◌&&◌, ◌==◌, nat_lt, if◌then◌else◌, List, [], ◌∷◌, map, length, refl, sym, ◌∙◌, ap, not}
 use Rattle.std.proofs.lemmas.Bool.{and_parts, or_parts}
 use Rattle.std.specs.List.{list_any, list_all}
 use Rattle.model.specs.Setup.{Setup}
@@ -30,22 +30,22 @@ module _ (setup : Setup) (fails : Bool) (s : Summary) (e : Entry) where
   )
 
   -- and a row more, above them
-  opened_kept : (rows : List Row) (id : ℕ) → may_open (ids_of rows) id ≡ true → AreKept rows → AreKept (row_opened setup fails s e id ∷ map (row_behind setup fails s e) rows)
-  opened_kept rows id may kept =
-      let parts = and_parts (id % 2 == 1 && is_above_all id rows) (nat_lt (length (ids_of rows)) most_streams) may in
+  opened_kept : (drained : Bool) (rows : List Row) (id : ℕ) → may_open drained (ids_of rows) id ≡ true → AreKept rows → AreKept (row_opened setup fails s e id ∷ map (row_behind setup fails s e) rows)
+  opened_kept drained rows id may kept =
+      let parts = and_parts (id % 2 == 1 && is_above_all id rows) (not drained && nat_lt (length (ids_of rows)) most_streams) may in
       let both = and_parts (id % 2 == 1) (is_above_all id rows) parts.0 in (
-        record { tidy = tidy_behind setup fails s e id fresh (fault_for fresh.outline s e); of_stream = not_zero (ids_of rows) id may },
+        record { tidy = tidy_behind setup fails s e id fresh (fault_for fresh.outline s e); of_stream = not_zero drained (ids_of rows) id may },
         ap (λ (ids : List ℕ). list_all (λ other. nat_lt other id) ids) (ids_changed setup fails s e rows) ∙ both.1,
         changed_kept rows kept,
       )
 
 -- The rows behind any entry.
 pub kept_behind_entry : (setup : Setup) (fails : Bool) (book : Book) (e : Entry) → AreKept book.rows → AreKept (book_after setup fails book e).rows
-kept_behind_entry setup fails book (Came noted) kept = cases (opens_by (ids_of book.rows) (completed_in book.block noted.frame) noted.note) refl
+kept_behind_entry setup fails book (Came noted) kept = cases (opens_by book.drained (ids_of book.rows) (completed_in book.block noted.frame) noted.note) refl
   where
-    cases : (b : Bool) → opens_by (ids_of book.rows) (completed_in book.block noted.frame) noted.note ≡ b
+    cases : (b : Bool) → opens_by book.drained (ids_of book.rows) (completed_in book.block noted.frame) noted.note ≡ b
         → AreKept (if b then row_opened setup fails (summary_in book) (Came noted) noted.frame.id ∷ map (row_behind setup fails (summary_in book) (Came noted)) book.rows else map (row_behind setup fails (summary_in book) (Came noted)) book.rows)
-    cases true is = opened_kept setup fails (summary_in book) (Came noted) book.rows noted.frame.id (opens_own (ids_of book.rows) book.block noted.frame noted.note is) kept
+    cases true is = opened_kept setup fails (summary_in book) (Came noted) book.drained book.rows noted.frame.id (opens_own book.drained (ids_of book.rows) book.block noted.frame noted.note is) kept
     cases false is = changed_kept setup fails (summary_in book) (Came noted) book.rows kept
 kept_behind_entry setup fails book (Breached breach) kept = changed_kept setup fails (summary_in book) (Breached breach) book.rows kept
 kept_behind_entry setup fails book (Happened event) kept = changed_kept setup fails (summary_in book) (Happened event) book.rows kept

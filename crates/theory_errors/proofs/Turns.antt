@@ -18,7 +18,7 @@ use Rattle.theory_errors.specs.Owing.{about_in, next_outline, highest_in, resets
 use Rattle.theory_errors.specs.Rows.{WillDo, with_streams}
 use Rattle.theory_errors.specs.Rule.{Move, queue_behind, IsInTurn, Allowed}
 use Rattle.theory_errors.specs.Book.{IsFit}
-use Rattle.model.proofs.OwedSteps.{neither, no_reset_for}
+use Rattle.model.proofs.OwedSteps.{neither_full, no_reset_for}
 use Rattle.theory_errors.proofs.Goaways.{goaway_control}
 use Rattle.theory_errors.proofs.Alike.{when_active}
 use Rattle.theory_errors.proofs.Seen.{EndsActive, FailsActive, fault_seen, owes_seen, end_seen, rightly_seen}
@@ -47,7 +47,7 @@ control_ends_none begun noted control =
 -- such a frame calls for nothing
 pub control_owes : (setup : Setup) (fails : Bool) (s : Summary) (noted : Noted) → is_passing noted ≡ false → owes_in setup fails s (Sent noted) ≡ []
 control_owes setup fails s noted control =
-    ap (λ b. (if b then goaway (highest_in s.opened) no_error ∷ [] else []) ++ (resets_in setup fails s (Sent noted) ++ reset_behind_in s (Sent noted))) (neither (length s.opened) most_streams)
+    ap (λ b. (if b then goaway (highest_in s.opened) no_error ∷ [] else []) ++ (resets_in setup fails s (Sent noted) ++ reset_behind_in s (Sent noted))) (neither_full s.drained (length s.opened) most_streams)
     ∙ ap (λ (fs : List Frame). fs ++ reset_behind_in s (Sent noted)) (none_reset (0 == 0 && nat_lt 0 0))
     ∙ ap (λ b. if b && not (s.stream noted.frame.id).ended_by_client then rst_stream noted.frame.id no_error ∷ [] else []) (control_ends_none s.block_out noted control)
   where

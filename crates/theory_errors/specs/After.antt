@@ -19,7 +19,7 @@ use Rattle.model.specs.Courses.{is_final}
 use Rattle.model.specs.ErrorClause.{is_fatal, is_calming}
 use Rattle.theory_errors.specs.Summary.{Stream as Kept, Summary}
 use Rattle.theory_errors.specs.Judging.{resets_active_in, shifts_past_in, completed_in, continuations_in, frame_rows_in, fault_for}
-use Rattle.theory_errors.specs.Owing.{fault_in, outline_from, opened_after}
+use Rattle.theory_errors.specs.Owing.{drained_after, fault_in, outline_from, opened_after}
 
 -- ---- the connection
 
@@ -182,8 +182,10 @@ after setup fails s e = record {
   continuations = continuations_after s.continuations e;
   block_out = block_out_after s.block_out e;
   first_size = first_size_after s e;
+  own = s.own;
   window = window_after s.window is_any 0 s e;
   room = room_after s.room is_any 0 e;
+  drained = drained_after s.drained e;
   opened = opened_after s e;
   stream = λ id. kept_behind setup fails s e id (s.stream id);
   resets = resets_after s e;

@@ -23,8 +23,10 @@ pub record Book : Type 0 where
   pub continuations : ℕ
   pub block_out : Option Partial
   pub first_size : ℕ
+  pub own : ℕ
   pub window : ℤ
   pub room : ℤ
+  pub drained : Bool
   pub rows : List Row
   pub resets : ℕ
   pub given : List Opened
@@ -41,8 +43,10 @@ summary_in book = record {
   continuations = book.continuations;
   block_out = book.block_out;
   first_size = book.first_size;
+  own = book.own;
   window = book.window;
   room = book.room;
+  drained = book.drained;
   opened = ids_of book.rows;
   stream = find book.rows;
   resets = book.resets;
@@ -61,8 +65,10 @@ book_with rows s = record {
   continuations = s.continuations;
   block_out = s.block_out;
   first_size = s.first_size;
+  own = s.own;
   window = s.window;
   room = s.room;
+  drained = s.drained;
   rows = rows;
   resets = s.resets;
   given = s.given;
@@ -107,7 +113,7 @@ abbrev pub IsSound : Bool → Summary → Entry → Type 0
 IsSound fails s (Came noted) = is_some (completed_in s.block noted.frame) ≡ true → is_told noted.note ≡ true
 IsSound fails s (Breached breach) = Unit {0}
 IsSound fails s (Happened event) = fails ≡ true → is_active_in (about_in s (Happened event)) s ≡ true
-IsSound fails s (Sent noted) = may_open s.opened noted.frame.id ≡ false
+IsSound fails s (Sent noted) = may_open s.drained s.opened noted.frame.id ≡ false
 IsSound fails s (Did act) = Unit {0}
 
 -- What any entry is: the header block of a frame that is such an error needs no reading.
@@ -124,7 +130,7 @@ pub record MayMove (ledger : Ledger) (m : Move) : Type 0 where
 
 -- what is kept before anything comes
 abbrev pub first_ledger : Setup → Ledger
-first_ledger setup = record { book = book_with [] (first_point setup).summary; queue = settings_frame ∷ [] }
+first_ledger setup = record { book = book_with [] (first_point setup).summary; queue = settings_frame setup.more_room ∷ [] }
 
 -- what is kept behind moves
 abbrev pub ledger_of : Setup → List Move → Ledger

@@ -41,7 +41,7 @@ streams_in s = map (λ id. record { id = id; state = state_in (s.stream id) }) s
 
 -- how an id stands to the streams
 abbrev pub standing_in : Summary → ℕ → Standing
-standing_in s id = standing (streams_in s) id
+standing_in s id = standing s.drained (streams_in s) id
 
 -- the streams that are active
 abbrev pub active_in : Summary → List ℕ
@@ -142,15 +142,15 @@ is_crowded_in s = nat_lt most_untaken s.untaken
 -- the streams that were opened, with the frame
 abbrev pub opened_with : Summary → Noted → List ℕ
 opened_with s noted =
-    if opens_by s.opened (completed_in s.block noted.frame) noted.note then noted.frame.id ∷ s.opened else s.opened
+    if opens_by s.drained s.opened (completed_in s.block noted.frame) noted.note then noted.frame.id ∷ s.opened else s.opened
 
--- these are all that may be opened, and weren't before
-abbrev pub are_last : Summary → List ℕ → Bool
-are_last s opened = nat_lt (length s.opened) most_streams && length opened == most_streams
+-- none may be opened any more, since the connection is drained or these are all, and one might before
+abbrev pub are_last : Summary → Bool → List ℕ → Bool
+are_last s drained opened = not s.drained && nat_lt (length s.opened) most_streams && (drained || length opened == most_streams)
 
 -- the last stream is opened, and its GOAWAY can't go out
 abbrev pub no_goaway_in : Summary → Noted → Option Fault
-no_goaway_in s noted = fault_if (are_last s (opened_with s noted) && is_crowded_in s) (Stream enhance_your_calm)
+no_goaway_in s noted = fault_if (are_last s s.drained (opened_with s noted) && is_crowded_in s) (Stream enhance_your_calm)
 
 -- an increment of an active stream's window
 abbrev pub stream_update_in : Summary → Frame → Option Fault
@@ -161,10 +161,14 @@ stream_update_in s frame =
     ∷ []
     )
 
+-- the receiving window of a stream of which this is kept, where such windows begin with so many octets
+abbrev pub room_in : ℕ → Kept → ℤ
+room_in own kept = pos own +ℤ kept.room
+
 -- DATA over an active stream's window
 abbrev pub stream_data_in : Summary → Frame → Option Fault
 stream_data_in s frame =
-    fault_if (is_active_in frame.id s && is_past_room (s.stream frame.id).room frame) (Stream flow_control_error)
+    fault_if (is_active_in frame.id s && is_past_room (room_in s.own (s.stream frame.id)) frame) (Stream flow_control_error)
 
 -- a frame that brings its stream, of which this is kept, what is no request
 abbrev pub malformed_in : Outline → Summary → Entry → Option Fault

@@ -15,7 +15,7 @@ use Rattle.model.specs.Limits.{high_water, most_streams}
 use Rattle.model.specs.Streams.{frame_items}
 use Rattle.model.specs.Errors.{Fault}
 use Rattle.model.specs.Errors.Fault.{Connection, Stream}
-use Rattle.model.specs.Lifetimes.{ends_by}
+use Rattle.model.specs.Lifetimes.{is_drain, ends_by}
 use Rattle.model.specs.WindowsOnTape.{increment}
 use Rattle.model.specs.Openings.{given}
 use Rattle.model.specs.Causes.{Cause, cause_if}
@@ -93,6 +93,11 @@ abbrev pub opened_after : Summary → Entry → List ℕ
 opened_after s (Came noted) = opened_with s noted
 opened_after s _ = s.opened
 
+-- whether the operator asked for the end, with the entry
+abbrev pub drained_after : Bool → Entry → Bool
+drained_after before (Happened event) = is_drain event || before
+drained_after before _ = before
+
 -- the highest of these ids, or 0
 abbrev pub highest_in : List ℕ → ℕ
 highest_in opened = fold max 0 opened
@@ -100,7 +105,7 @@ highest_in opened = fold max 0 opened
 -- the GOAWAY that the last stream calls for
 abbrev pub last_goaway_in : Summary → Entry → List Frame
 last_goaway_in s e =
-    if are_last s (opened_after s e)
+    if are_last s (drained_after s.drained e) (opened_after s e)
     then goaway (highest_in (opened_after s e)) no_error ∷ []
     else []
 
@@ -158,4 +163,4 @@ is_rightly_sent_in s frame =
 
 -- the connection is to end
 abbrev pub must_end_in : Summary → Bool
-must_end_in s = s.ends || length s.opened == most_streams && length (active_in s) == 0
+must_end_in s = s.ends || (s.drained || length s.opened == most_streams) && length (active_in s) == 0

@@ -2,7 +2,7 @@
 -- gateway reset it; of all other ids nothing.
 use Rattle.std.specs.Prelude.{◌≡◌, ℕ, Bool, true, false, ◌≤◌, ◌==◌, if◌then◌else◌, List, [], ◌∷◌, map, length, None, pos}
 use Rattle.std.specs.List.{list_any}
-use Rattle.model.specs.Limits.{first_window, most_streams}
+use Rattle.model.specs.Limits.{most_streams}
 use Rattle.model.specs.Setup.{Setup}
 use Rattle.model.specs.Tapes.{Entry}
 use Rattle.model.specs.Tapes.Entry.{Came}
@@ -19,7 +19,7 @@ fresh = record {
   reset_by_client = false;
   reset_by_gateway = false;
   balance = pos 0;
-  room = pos first_window;
+  room = pos 0;
   head_out = false;
   outline = record { begun = false; declared = None; octets = 0; over = false; cause = None; head_out = false };
 }
@@ -77,7 +77,7 @@ row_opened setup fails s e id = record { id = id; slot = slot_of (kept_behind se
 -- the rows behind an entry: each is changed as the entry says, and a stream that it opens stands in front
 abbrev pub rows_after : Setup → Bool → Summary → Entry → List Row → List Row
 rows_after setup fails s (Came noted) rows =
-    if opens_by s.opened (completed_in s.block noted.frame) noted.note
+    if opens_by s.drained s.opened (completed_in s.block noted.frame) noted.note
     then row_opened setup fails s (Came noted) noted.frame.id ∷ map (row_behind setup fails s (Came noted)) rows
     else map (row_behind setup fails s (Came noted)) rows
 rows_after setup fails s e rows = map (row_behind setup fails s e) rows
@@ -94,12 +94,12 @@ pub record IsAlike (kept told : Kept) : Type 0 where
 -- that may be opened yet.
 pub record WillDo (f : ℕ → Kept) (s : Summary) : Type 0 where
   pub alike : (id : ℕ) → list_any (λ other. other == id) s.opened ≡ true → IsAlike (f id) (s.stream id)
-  pub idle : (id : ℕ) → may_open s.opened id ≡ true → f id ≡ s.stream id
+  pub idle : (id : ℕ) → may_open s.drained s.opened id ≡ true → f id ≡ s.stream id
 
 -- The rows stand for the streams of a summary: one for each that was opened, in their order, and alike; nothing was said of a
 -- stream that may be opened yet.
 pub record StandFor (rows : List Row) (s : Summary) : Type 0 where
   pub ids : ids_of rows ≡ s.opened
   pub alike : (id : ℕ) → list_any (λ other. other == id) s.opened ≡ true → IsAlike (find rows id) (s.stream id)
-  pub idle : (id : ℕ) → may_open s.opened id ≡ true → s.stream id ≡ fresh
+  pub idle : (id : ℕ) → may_open s.drained s.opened id ≡ true → s.stream id ≡ fresh
   pub few : length s.opened ≤ most_streams

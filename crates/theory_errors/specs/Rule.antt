@@ -85,7 +85,7 @@ tape_of (m ∷ moves) = m.entry ∷ tape_of moves
 
 -- what was kept before anything came: the summary of no entry, whatever is known
 abbrev pub first_point : Setup → Point
-first_point setup = record { summary = summary_of (record { setup = setup; failures = [] }) []; queue = settings_frame ∷ [] }
+first_point setup = record { summary = summary_of (record { setup = setup; failures = [] }) []; queue = settings_frame setup.more_room ∷ [] }
 
 -- what is kept and owed behind moves
 abbrev pub point_of : Setup → List Move → Point

@@ -11,10 +11,11 @@ use Rattle.model.specs.Errors.{has_come}
 use Rattle.model.specs.Available.{items_on}
 use Rattle.model.specs.Decoding.{Partial, begun}
 use Rattle.model.specs.Known.{Known}
+use Rattle.model.specs.Setup.{own_window}
 use Rattle.model.specs.Openings.{Opened, exchanges, last_stream}
-use Rattle.model.specs.Lifetimes.{opened, is_ended_by_client, is_ended_by_gateway, is_reset_by_client, is_reset_by_gateway, resets_by_client}
+use Rattle.model.specs.Lifetimes.{is_drained, opened, is_ended_by_client, is_ended_by_gateway, is_reset_by_client, is_reset_by_gateway, resets_by_client}
 use Rattle.model.specs.FrameErrors.{last_continuations}
-use Rattle.model.specs.WindowsOnTape.{balance_on, first_size, connection_window, room_on, room_on_connection}
+use Rattle.model.specs.WindowsOnTape.{balance_on, first_size, connection_window, back_on, room_on_connection}
 use Rattle.model.specs.Courses.{Course, course, is_final}
 use Rattle.model.specs.ErrorClause.{calls_for_end}
 
@@ -42,7 +43,7 @@ pub record Stream : Type 0 where
   pub reset_by_gateway : Bool
   -- what was granted to it without what was sent: its sending window less the first size that holds for all streams
   pub balance : ℤ
-  -- how many octets of DATA may come
+  -- what was given back on it without what came: its receiving window less the size with which all such windows begin
   pub room : ℤ
   -- the final head of a response was sent
   pub head_out : Bool
@@ -58,11 +59,14 @@ pub record Summary : Type 0 where
   pub continuations : ℕ
   -- the header block to the client that isn't complete
   pub block_out : Option Partial
-  -- the first size of streams' sending windows
+  -- the first size of streams' sending windows, and of their receiving windows
   pub first_size : ℕ
+  pub own : ℕ
   -- the connection's windows, in which it sends and in which it receives
   pub window : ℤ
   pub room : ℤ
+  -- the operator asked for the end of the connection
+  pub drained : Bool
   -- the streams that were opened, the newest first, and what is left of each
   pub opened : List ℕ
   pub stream : ℕ → Stream
@@ -96,7 +100,7 @@ stream_of known t id = record {
   reset_by_client = is_reset_by_client id t;
   reset_by_gateway = is_reset_by_gateway id t;
   balance = balance_on id t;
-  room = room_on id t;
+  room = back_on id t;
   head_out = list_any is_final (items_on id (sent t));
   outline = outline_of (course known id t);
 }
@@ -109,8 +113,10 @@ summary_of known t = record {
   continuations = last_continuations (came t);
   block_out = begun (sent t);
   first_size = first_size t;
+  own = own_window known.setup;
   window = connection_window t;
   room = room_on_connection t;
+  drained = is_drained t;
   opened = opened t;
   stream = stream_of known t;
   resets = resets_by_client t;

@@ -28,7 +28,7 @@ queue_after known t queue e = owed_by known t e
 
 -- the debt behind a tape: at first the gateway's settings
 abbrev pub queue_of : Known → List Entry → List Frame
-queue_of known [] = settings_frame ∷ []
+queue_of known [] = settings_frame known.setup.more_room ∷ []
 queue_of known (e ∷ t) = queue_after known t (queue_of known t) e
 
 -- ---- which entry may come
@@ -105,7 +105,7 @@ IsCut known t queue =
 -- What holds behind a tape, with this debt.
 pub record Holds (known : Known) (t : List Entry) (queue : List Frame) : Type 0 where
   -- the first frame was the gateway's settings, or is owed
-  pub begins : (newer : List Frame) × (reverse queue ++ map (λ (noted : Noted). noted.frame) (sent t) ≡ newer ++ settings_frame ∷ [])
+  pub begins : (newer : List Frame) × (reverse queue ++ map (λ (noted : Noted). noted.frame) (sent t) ≡ newer ++ settings_frame known.setup.more_room ∷ [])
   -- what is owed by the entries is what was sent and what is owed yet
   pub owing : reverse queue ++ controls (sent t) ≡ owed known t
   pub followed : Followed known t queue

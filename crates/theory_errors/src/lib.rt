@@ -154,7 +154,7 @@ pub fn quiet_frames()
 /// nothing else is new but what is untaken.
 pub fn debts_are_paid()
     ensures may { (book : Book) (frame : Frame) → is_passing (noted_of frame) ≡ false → (queue : List Frame) → book.closed ≡ false
-        → may_open (summary_in book).opened frame.id ≡ false → (is_calming frame && not book.ends) ≡ false
+        → may_open (summary_in book).drained (summary_in book).opened frame.id ≡ false → (is_calming frame && not book.ends) ≡ false
         → (is_crowded_in (summary_in book) && not (is_calming frame)) ≡ false → MayMove (record { book = book; queue = frame ∷ queue }) (sends frame) }
     ensures nothing { (setup : Setup) (book : Book) (frame : Frame) → IsControl frame → owes_in setup false (summary_in book) (sending frame) ≡ [] }
     ensures paid { (setup : Setup) (book : Book) (frame : Frame) → IsControl frame → book.block_out ≡ None → AreKept book.rows → (queue : List Frame)

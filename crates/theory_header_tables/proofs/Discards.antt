@@ -39,7 +39,7 @@ run =
     ∷ Sends (noted (frame rst_stream_kind 0 1 (0 ∷ 0 ∷ 0 ∷ 8 ∷ [])) NoBlock) None first_table
     ∷ Takes (noted (frame headers_kind 4 1 (130 ∷ 134 ∷ 132 ∷ 65 ∷ 1 ∷ 97 ∷ [])) (Fields request)) (completes (block_of 1 false (130 ∷ 134 ∷ 132 ∷ 65 ∷ 1 ∷ 97 ∷ []))) decoded
     ∷ Takes (noted (frame settings_kind 0 0 []) NoBlock) settled first_table
-    ∷ Sends (noted settings_frame NoBlock) None first_table
+    ∷ Sends (noted (settings_frame 0) NoBlock) None first_table
     ∷ []
 
 judged : AllJudged run

@@ -53,7 +53,7 @@ run =
     ∷ Takes (noted (frame headers_kind 1 1 (130 ∷ 134 ∷ [])) NoBlock) fine first_table
     ∷ Sends (noted settings_ack NoBlock) None first_table
     ∷ Takes (noted (frame settings_kind 0 0 []) NoBlock) settled first_table
-    ∷ Sends (noted settings_frame NoBlock) None first_table
+    ∷ Sends (noted (settings_frame 0) NoBlock) None first_table
     ∷ []
 
 -- the verdicts are right

@@ -40,7 +40,7 @@ use Rattle.theory_header_tables.proofs.Synced.{in_step_by}
 -- one route, for another authority
 abbrev elsewhere : Known
 elsewhere = record {
-  setup = record { routes = record { authority = codes "b"; path = codes "/" } ∷ []; policy = Indexing; passing = Whole; max_body = 1048576; max_response = 1048576; keep = false; most_idle = 8 };
+  setup = record { routes = record { authority = codes "b"; path = codes "/" } ∷ []; policy = Indexing; passing = Whole; max_body = 1048576; max_response = 1048576; keep = false; most_idle = 8; more_room = 0 };
   failures = [];
 }
 
@@ -79,7 +79,7 @@ moves =
     ∷ Takes asks (completes (block_of 1 true (130 ∷ 134 ∷ 132 ∷ 65 ∷ 1 ∷ 97 ∷ []))) decoded
     ∷ Sends (plain settings_ack) None first_table
     ∷ Takes (plain (frame settings_kind 0 0 [])) settled first_table
-    ∷ Sends (plain settings_frame) None first_table
+    ∷ Sends (plain (settings_frame 0)) None first_table
     ∷ []
 
 -- a frame that changes nothing of what is on offer
@@ -88,7 +88,7 @@ no_change = record { opens = false; over = false; caused = None }
 
 -- the same moves, as what is on offer has them: settings, and their acknowledgement
 abbrev greeted : List Offer
-greeted = Gives (plain settings_ack) ∷ Hears (plain (frame settings_kind 0 0 [])) no_change ∷ Gives (plain settings_frame) ∷ []
+greeted = Gives (plain settings_ack) ∷ Hears (plain (frame settings_kind 0 0 [])) no_change ∷ Gives (plain (settings_frame 0)) ∷ []
 
 -- the request, which no route takes
 abbrev asked : List Offer
@@ -213,10 +213,10 @@ allowed = (
     (
       (
         (tt, no_neighbours [] refl, record { no_block = refl; no_data = refl }),
-        no_neighbours (map offered (Gives (plain settings_frame) ∷ [])) refl,
+        no_neighbours (map offered (Gives (plain (settings_frame 0)) ∷ [])) refl,
         record { opened = refl; caused = λ active. record { cause = refl; out = refl; heads = refl } },
       ),
-      no_neighbours (map offered (Hears (plain (frame settings_kind 0 0 [])) no_change ∷ Gives (plain settings_frame) ∷ [])) refl,
+      no_neighbours (map offered (Hears (plain (frame settings_kind 0 0 [])) no_change ∷ Gives (plain (settings_frame 0)) ∷ [])) refl,
       record { no_block = refl; no_data = refl },
     ),
     no_neighbours (map offered greeted) refl,

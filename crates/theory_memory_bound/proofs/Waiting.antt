@@ -1,4 +1,4 @@
--- Of no stream's DATA more octets wait than the connection's first receiving window has.
+-- Of no stream's DATA more octets wait than receiving windows have at first.
 use Rattle.std.proofs.Common.{◌≡◌, ℕ, ◌+◌, ◌≤◌, Bool, true, false, ◌||◌, ◌==◌, List, [], ◌∷◌, Option, Some, None, refl, sym, ◌∙◌, ap, arith}
 use Rattle.std.specs.Prelude.{ℤ, pos, ◌-ℤ◌, ◌≤ℤ◌, sum_by}
 use Rattle.std.specs.List.{list_any}
@@ -6,8 +6,7 @@ use Rattle.std.proofs.lemmas.Bool.{eqb-true}
 use Rattle.std.proofs.lemmas.Int.{ints}
 use Rattle.std.proofs.lemmas.List.Sums.{sum_by-cons}
 use Rattle.model.specs.Known.{Known}
-use Rattle.model.specs.Setup.{Setup}
-use Rattle.model.specs.Limits.{first_window}
+use Rattle.model.specs.Setup.{Setup, own_window}
 use Rattle.theory_errors.specs.Summary.{Summary, summary_of}
 use Rattle.theory_errors.specs.Rule.{known_of}
 use Rattle.theory_errors.specs.Book.{AllMoved, ledger_of}
@@ -29,8 +28,8 @@ use Rattle.refinement.proofs.Where.{windows_here}
 use Rattle.theory_memory_bound.proofs.Left.{none_missing}
 
 -- what is missing in a window that isn't overdrawn is no more than it had
-within : (room : ℤ) (wait count debt : ℕ) → room ≡ pos first_window -ℤ pos (wait + count + debt) → pos 0 ≤ℤ room → wait ≤ first_window
-within room wait count debt is left = omega (arith, ints, is, left)
+within : (own : ℕ) (room : ℤ) (wait count debt : ℕ) → room ≡ pos own -ℤ pos (wait + count + debt) → pos 0 ≤ℤ room → wait ≤ own
+within own room wait count debt is left = omega (arith, ints, is, left)
 
 -- one of a list has no more than all
 among : (f : ℕ → ℕ) (id : ℕ) (ids : List ℕ) → list_any (λ other. other == id) ids ≡ true → f id ≤ sum_by f ids
@@ -59,17 +58,17 @@ module _ (setup : Setup) (run : List Move) (kept : View) (pending : Pending) (s 
   told = book_told known (conducts run) (known_so setup (conducts run)) moved on
 
   -- what waits of all active streams
-  all_wait : sum_by (held at) at.live ≤ first_window
+  all_wait : sum_by (held at) at.live ≤ own_window setup
   all_wait =
-      within (ledger_of setup (conducts run)).book.room (sum_by (held at) at.live) at.count at.debt
-      (ap (λ (u : Summary). u.room) told.same ∙ shared_room setup.passing (tape_of run) at (windows_here setup run s leads.stands leads.so))
+      within (own_window setup) (ledger_of setup (conducts run)).book.room (sum_by (held at) at.live) at.count at.debt
+      (ap (λ (u : Summary). u.room) told.same ∙ shared_room setup.more_room setup.passing (tape_of run) at (windows_here setup run s leads.stands leads.so))
       (none_missing setup (conducts run) moved on)
 
   -- and so of each
-  pub each_waits : (stream : ℕ) → waiting_for stream kept ≤ first_window
+  pub each_waits : (stream : ℕ) → waiting_for stream kept ≤ own_window setup
   each_waits stream = by (find stream kept.marks) refl
     where
-      by : (o : Option Side) → find stream kept.marks ≡ o → waiting_for stream kept ≤ first_window
+      by : (o : Option Side) → find stream kept.marks ≡ o → waiting_for stream kept ≤ own_window setup
       by None none = let nothing : waiting_for stream kept ≡ 0 = ap (λ (x : Option Side). total (queue_if x)) none in omega (arith, nothing)
       by (Some side) found =
           let same : waiting_for stream kept ≡ held at stream = ap (λ (x : Option Side). total (queue_if x)) found ∙ ap total (sym (leads.marked.stand.rows stream side found).queue) in

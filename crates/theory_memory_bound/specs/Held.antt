@@ -1,7 +1,6 @@
 -- How many octets the session keeps, as sums over all octet lists of what it keeps, and how many there may be where it rests.
 use Rattle.std.specs.Prelude.{ℕ, ◌+◌, ◌*◌, ◌≤◌, ◌==◌, if◌then◌else◌, List, [], ◌∷◌, length}
-use Rattle.model.specs.Setup.{Setup}
-use Rattle.model.specs.Limits.{first_window}
+use Rattle.model.specs.Setup.{Setup, own_window}
 use Rattle.model.specs.Tables.{total_size}
 use Rattle.theory_errors.specs.Held.{octets_begun}
 use Rattle.theory_responses.specs.Held as offers
@@ -55,7 +54,7 @@ most_in_all setup = most_beside + most_streams * most_for_stream setup
 abbrev pub most_connections : Setup → ℕ
 most_connections setup = most_streams + setup.most_idle
 
--- Little is kept; and of no stream's DATA more octets wait for its upstream's side than the connection's first receiving window has.
+-- Little is kept; and of no stream's DATA more octets wait for its upstream's side than receiving windows have at first.
 pub record IsSmall (setup : Setup) (kept : View) : Type 0 where
   pub beside : held_beside kept ≤ most_beside
   pub few_boxes : length kept.offers.kept ≤ most_streams
@@ -63,4 +62,4 @@ pub record IsSmall (setup : Setup) (kept : View) : Type 0 where
   pub few_connections : length kept.upstreams.live ≤ most_connections setup
   pub each : (stream : ℕ) → held_for stream kept ≤ most_for_stream setup
   pub all : held_in kept ≤ most_in_all setup
-  pub few_waiting : (stream : ℕ) → waiting_for stream kept ≤ first_window
+  pub few_waiting : (stream : ℕ) → waiting_for stream kept ≤ own_window setup

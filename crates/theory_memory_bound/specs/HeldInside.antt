@@ -95,14 +95,16 @@ in_connection = λ record {
   continuations = continuations;
   settings = settings;
   window = window;
+  own = own;
   room = room;
+  drained = drained;
   streams = streams;
   resets = resets;
   last = last;
   decoder = decoder;
   alloc = alloc;
 }.
-    in_flag has_come + in_number continuations + in_rows streams + in_number settings + in_size window + in_size room + in_number resets + in_number last
+    in_flag has_come + in_flag drained + in_number continuations + in_rows streams + in_number settings + in_size window + in_number own + in_size room + in_number resets + in_number last
     + blocks.octets_begun joiner.begun + total_size decoder.table.fields
 
 -- in what is kept of a stream's response, and of all: what is on offer

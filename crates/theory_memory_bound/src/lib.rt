@@ -26,7 +26,7 @@ ghost use Rattle.theory_memory_bound.specs.Held.{IsSmall};
 /// - beside that at most 150,000: the client's header block that isn't complete, and both header
 ///   tables;
 /// - so in all at most 150,000 and 100 times as much as for a stream;
-/// - of each stream's DATA at most 65,535 octets wait for its upstream's side, since the client may
+/// - of each stream's DATA at most `own_window` octets wait for its upstream's side, since the client may
 ///   send no more before some go back, and where it does the connection is to end (RFC 9113,
 ///   section 6.9.1).
 ///

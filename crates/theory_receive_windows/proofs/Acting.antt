@@ -20,7 +20,7 @@ use Rattle.theory_receive_windows.proofs.Incoming.{live_among}
 use Rattle.theory_receive_windows.proofs.Keeping.{IsQueue, Stands, StandsIn, Keeping, waits_put, waits_used, waits_opened}
 use Rattle.theory_responses.proofs.Moving.{exchanges_sent}
 
-module _ (passing : Passing) (t : List Entry) (s : State) (c : Counting t s) (h : Keeping passing t s) where
+module _ (more : ℕ) (passing : Passing) (t : List Entry) (s : State) (c : Counting t s) (h : Keeping more passing t s) where
   -- octets are put out
   queue_put : (p : Passing) (k : ℕ) (octets : List ℕ) (id : ℕ) → (p ≡ Streaming → s.settled ≡ false) → IsQueue p t id (s.row id) s.took s.out s.settled (fresh_of s id) → IsQueue p (Did (ToUp k octets) ∷ t) id (s.row id) s.took (add k (length octets) s.out) s.settled (fresh_of s id)
   queue_put Whole k octets id in_effect q = q
@@ -31,7 +31,7 @@ module _ (passing : Passing) (t : List Entry) (s : State) (c : Counting t s) (h 
       by false = omega arith
 
   -- octets are put out: the invariant stays
-  pub keeping_put : (k : ℕ) (octets : List ℕ) → MayPut passing (gates_on t) s k → Keeping passing (Did (ToUp k octets) ∷ t) (record s { out = add k (length octets) s.out })
+  pub keeping_put : (k : ℕ) (octets : List ℕ) → MayPut passing (gates_on t) s k → Keeping more passing (Did (ToUp k octets) ∷ t) (record s { out = add k (length octets) s.out })
   keeping_put k octets may = let same = same_exchanges t k octets may.its in record {
     live = h.live;
     unopened = λ id out. ap (connection_of id) same ∙ h.unopened id out;
@@ -79,13 +79,13 @@ module _ (passing : Passing) (t : List Entry) (s : State) (c : Counting t s) (h 
   unopened_yet : (k : ℕ) → is_live s s.stream ≡ true → (id : ℕ) → is_opened id t ≡ false → (if last_stream t == id then k else connection_of id (exchanges t)) ≡ 0
   unopened_yet k active id out =
       ap (λ b. if b then k else connection_of id (exchanges t)) (ne_eqb (last_stream t) id (λ same.
-      let on : is_active id t ≡ true = ap (λ n. is_active n t) (sym (c.last ∙ same)) ∙ sym (live_among passing t s s.stream h) ∙ active in
+      let on : is_active id t ≡ true = ap (λ n. is_active n t) (sym (c.last ∙ same)) ∙ sym (live_among more passing t s s.stream h) ∙ active in
       let there : is_opened id t ≡ true = (and_parts (is_opened id t) (not (is_over id t)) on).0 in
       absurd (let no : true ≡ false = sym there ∙ out in cc)))
       ∙ h.unopened id out
 
   -- a connection is opened: the invariant stays
-  pub keeping_opened : (k route : ℕ) → MayOpen s k → Keeping passing (Did (Open k route) ∷ t) (with_act s (Open k route))
+  pub keeping_opened : (k route : ℕ) → MayOpen s k → Keeping more passing (Did (Open k route) ∷ t) (with_act s (Open k route))
   keeping_opened k route may = record {
     live = h.live;
     unopened = unopened_yet k may.active;
@@ -129,7 +129,7 @@ module _ (passing : Passing) (t : List Entry) (s : State) (c : Counting t s) (h 
           })
         ]
 
-    pub keeping_used : Keeping passing u (with_use s k octets)
+    pub keeping_used : Keeping more passing u (with_use s k octets)
     keeping_used = record {
       live = h.live;
       unopened = λ id out. ap (connection_of id) (exchanges_sent k octets t true may.begins) ∙ unopened_yet k may.active id out;
@@ -146,7 +146,7 @@ module _ (passing : Passing) (t : List Entry) (s : State) (c : Counting t s) (h 
   queue_closed Streaming k id q = record { counts = q.counts; above = q.above; rise = q.rise }
 
   -- a connection is closed
-  pub keeping_closed : (k : ℕ) → Keeping passing (Did (Close k) ∷ t) (with_act s (Close k))
+  pub keeping_closed : (k : ℕ) → Keeping more passing (Did (Close k) ∷ t) (with_act s (Close k))
   keeping_closed k = record {
     live = h.live;
     unopened = h.unopened;
@@ -160,7 +160,7 @@ module _ (passing : Passing) (t : List Entry) (s : State) (c : Counting t s) (h 
   queue_shut Streaming id q = record { counts = q.counts; above = q.above; rise = q.rise }
 
   -- the client is closed
-  pub keeping_shut : Keeping passing (Did CloseClient ∷ t) (with_act s CloseClient)
+  pub keeping_shut : Keeping more passing (Did CloseClient ∷ t) (with_act s CloseClient)
   keeping_shut = record {
     live = h.live;
     unopened = h.unopened;

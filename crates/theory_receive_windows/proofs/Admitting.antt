@@ -3,7 +3,7 @@ use Rattle.std.proofs.Common.{◌≡◌, ℕ, ◌+◌, ◌-◌, ◌≤◌, Bool,
 use Rattle.std.specs.Prelude.{nat_le}
 use Rattle.std.proofs.lemmas.Bool.{leb-true, le-leb, and_parts, and_from}
 use Rattle.model.specs.Logs.{Event}
-use Rattle.model.specs.Logs.Event.{Client, ClientEnd, ClientTook, Up, UpEnd, UpFailed, UpTook}
+use Rattle.model.specs.Logs.Event.{Client, ClientEnd, ClientTook, Up, UpEnd, UpFailed, UpTook, Drain}
 use Rattle.model.specs.Setup.{Passing}
 use Rattle.model.specs.Setup.Passing.{Whole, Streaming}
 use Rattle.model.specs.Tapes.{Entry, sent, is_closed}
@@ -44,6 +44,7 @@ module _ (t : List Entry) (s : State) (gates : Gates) (told : AreGates t gates) 
   come_same (UpEnd k) = told.is_up k
   come_same (UpFailed k) = told.is_up k
   come_same (UpTook k count) = ap (λ b. b && nat_le (s.took k + count) (s.out k)) (told.is_up k)
+  come_same Drain = refl
 
   -- which event may come
   pub admits_same : (event : Event) → Counting t s → admits gates s event ≡ is_admitted t event
@@ -57,6 +58,7 @@ module _ (t : List Entry) (s : State) (gates : Gates) (told : AreGates t gates) 
       in_order (UpEnd k) = refl
       in_order (UpFailed k) = refl
       in_order (UpTook k count) = ap (λ b. is_open k t && b) (shifted (s.took k) count (untaken_up k t) (s.out k) (c.left k))
+      in_order Drain = refl
 
 -- ---- the room of an upstream
 
@@ -106,6 +108,7 @@ module _ (known : Known) (t : List Entry) (s : State) (gates : Gates) (told : Ar
   fits_room (UpEnd k) h may ok = tt
   fits_room (UpFailed k) h may ok = tt
   fits_room (UpTook k count) h may ok = tt
+  fits_room Drain h may ok = tt
 
   -- and the other way round
   room_fits : (event : Event) → AreHeld known t held event → is_admitted t event ≡ true → FitsRoom known t event → fits gates held event ≡ true
@@ -116,6 +119,7 @@ module _ (known : Known) (t : List Entry) (s : State) (gates : Gates) (told : Ar
   room_fits (UpEnd k) h may f = refl
   room_fits (UpFailed k) h may f = refl
   room_fits (UpTook k count) h may f = refl
+  room_fits Drain h may f = refl
 
   -- The event may come by the state just where it may by the tape.
   pub admitted : (event : Event) → AreHeld known t held event → admits_beside gates s held event ≡ true → IsAdmitted known t event

@@ -4,7 +4,7 @@ use Rattle.std.specs.Prelude.{nat_le}
 use Rattle.std.proofs.lemmas.Bool.{and_parts, leb-true, ne_eqb}
 use Rattle.std.proofs.lemmas.Bool.Decides.{eqb_tells}
 use Rattle.model.specs.Logs.{Event, Act}
-use Rattle.model.specs.Logs.Event.{Client, ClientEnd, ClientTook, Up, UpEnd, UpFailed, UpTook}
+use Rattle.model.specs.Logs.Event.{Client, ClientEnd, ClientTook, Up, UpEnd, UpFailed, UpTook, Drain}
 use Rattle.model.specs.Logs.Act.{Open, ToUp, Close, CloseClient}
 use Rattle.model.specs.Setup.{Passing}
 use Rattle.model.specs.Tapes.{Noted, Entry, sent_up}
@@ -29,8 +29,8 @@ pub record Counting (t : List Entry) (s : State) : Type 0 where
   pub none_took : s.took 0 ≡ 0
 
 -- nothing came
-pub counting_start : Counting [] start
-counting_start = record {
+pub counting_start : (more : ℕ) → Counting [] (start more)
+counting_start more = record {
   out = λ k. refl;
   took = λ k. refl;
   within = λ k. omega arith;
@@ -103,6 +103,7 @@ counting_event t s (ClientTook count) c may = record { out = c.out; took = c.too
 counting_event t s (Up k piece) c may = record { out = c.out; took = c.took; within = c.within; left = c.left; last = c.last; none_up = c.none_up; none_out = c.none_out; none_took = c.none_took }
 counting_event t s (UpEnd k) c may = record { out = c.out; took = c.took; within = c.within; left = c.left; last = c.last; none_up = c.none_up; none_out = c.none_out; none_took = c.none_took }
 counting_event t s (UpFailed k) c may = counting_failed t s k c
+counting_event t s Drain c may = record { out = c.out; took = c.took; within = c.within; left = c.left; last = c.last; none_up = c.none_up; none_out = c.none_out; none_took = c.none_took }
 counting_event t s (UpTook k count) c may =
     let parts = and_parts (is_open k t) (nat_le (s.took k + count) (s.out k)) may in
     counting_taken t s k count c parts.0 (leb-true (s.took k + count) (s.out k) parts.1)

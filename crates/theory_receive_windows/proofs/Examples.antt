@@ -38,10 +38,10 @@ none_over e = absurd (let no : false ≡ true = e in cc)
 
 -- the connection begins
 abbrev begun : List Move
-begun = Sends (plain 4 1 0 []) false ∷ Takes (plain 4 0 0 []) false false ∷ Sends (record { frame = settings_frame; note = NoBlock }) false ∷ []
+begun = Sends (plain 4 1 0 []) false ∷ Takes (plain 4 0 0 []) false false ∷ Sends (record { frame = settings_frame 0; note = NoBlock }) false ∷ []
 
 -- it may
-begun_allowed : AreAllowed Streaming begun
+begun_allowed : AreAllowed 0 Streaming begun
 begun_allowed = ((
   ((tt, record { kind = refl; active = refl; was = none_over }), record { settled = refl; opens = refl; opened = refl; was = none_over }),
   record { kind = refl; active = refl; was = none_over },
@@ -60,11 +60,11 @@ asked =
     ∷ begun
 
 -- they may
-asked_allowed : AreAllowed Streaming asked
+asked_allowed : AreAllowed 0 Streaming asked
 asked_allowed =
-    let new : AreAllowed Streaming (Takes (headed 1) true false ∷ begun) = (begun_allowed, record { settled = refl; opens = refl; opened = (refl, refl, refl); was = none_over }) in
-    let opened : AreAllowed Streaming (Acts (Open 1 0) ∷ Takes (headed 1) true false ∷ begun) = (new, record { active = refl; counted = omega arith; first = refl; unused = refl; untaken = refl }) in
-    let put : AreAllowed Streaming (Acts (ToUp 1 (codes "HEAD")) ∷ Acts (Open 1 0) ∷ Takes (headed 1) true false ∷ begun) = (opened, record { opened = refl; its = refl; in_effect = λ e. refl }) in
+    let new : AreAllowed 0 Streaming (Takes (headed 1) true false ∷ begun) = (begun_allowed, record { settled = refl; opens = refl; opened = (refl, refl, refl); was = none_over }) in
+    let opened : AreAllowed 0 Streaming (Acts (Open 1 0) ∷ Takes (headed 1) true false ∷ begun) = (new, record { active = refl; counted = omega arith; first = refl; unused = refl; untaken = refl }) in
+    let put : AreAllowed 0 Streaming (Acts (ToUp 1 (codes "HEAD")) ∷ Acts (Open 1 0) ∷ Takes (headed 1) true false ∷ begun) = (opened, record { opened = refl; its = refl; in_effect = λ e. refl }) in
     (((put, record { settled = refl; opens = refl; opened = (refl, refl, refl); was = none_over }), record { active = refl; counted = omega arith; first = refl; unused = refl; untaken = refl }), record { opened = refl; its = refl; in_effect = λ e. refl })
 
 -- five octets of DATA on the one, two of them padded, and six on the other: what was put out by then isn't taken yet
@@ -79,7 +79,7 @@ padded =
     ∷ asked
 
 -- it may come so
-padded_allowed : AreAllowed Streaming padded
+padded_allowed : AreAllowed 0 Streaming padded
 padded_allowed = (
   (((((asked_allowed, record { settled = refl; opens = refl; opened = refl; was = none_over }), record { opened = refl; its = refl; in_effect = λ e. refl }), tt), record { settled = refl; opens = refl; opened = refl; was = none_over }), record { opened = refl; its = refl; in_effect = λ e. refl }),
   tt,
@@ -96,18 +96,18 @@ taken_in_part =
     ∷ padded
 
 -- this may come
-taken_allowed : AreAllowed Streaming taken_in_part
+taken_allowed : AreAllowed 0 Streaming taken_in_part
 taken_allowed = (
   ((((padded_allowed, record { settled = refl; admitted = refl }), record { settled = refl; opens = refl; opened = refl; was = none_over }), record { opened = refl; its = refl; in_effect = λ e. refl }), tt),
   record { settled = refl; admitted = refl },
 )
 
 -- five octets are owed, and the sixth waits
-five_owed : (state_of Streaming taken_in_part).debt ≡ 5
+five_owed : (state_of 0 Streaming taken_in_part).debt ≡ 5
 five_owed = refl
 
 -- the one behind its own mark
-one_waits : ((state_of Streaming taken_in_part).row 1).queue ≡ record { mark = 7; count = 1 } ∷ []
+one_waits : ((state_of 0 Streaming taken_in_part).row 1).queue ≡ record { mark = 7; count = 1 } ∷ []
 one_waits = refl
 
 -- They go back. The client resets the other stream, and what waited for it goes back on the connection.
@@ -121,7 +121,7 @@ run =
     ∷ taken_in_part
 
 -- all of it is allowed
-run_allowed : AreAllowed Streaming run
+run_allowed : AreAllowed 0 Streaming run
 run_allowed = (
   ((((taken_allowed, record { kind = refl; owed = refl }), record { kind = refl; owed = (refl, refl, refl) }), record { settled = refl; opens = refl; opened = refl; was = λ e. refl }), tt),
   record { kind = refl; owed = refl },
@@ -131,15 +131,15 @@ run_allowed = (
 
 -- one stream is active still
 one_active : (stream : ℕ) → is_active stream (tape_of run) ≡ true → 1 ≡ stream
-one_active stream on = eqb-true 1 stream (first (1 == stream) (live_among Streaming (tape_of run) (state_of Streaming run) stream (receiving Streaming run run_allowed).keeping ∙ on))
+one_active stream on = eqb-true 1 stream (first (1 == stream) (live_among 0 Streaming (tape_of run) (state_of 0 Streaming run) stream (receiving 0 Streaming run run_allowed).keeping ∙ on))
   where
     first : (b : Bool) → (b || false) ≡ true → b ≡ true
     first true e = refl
     first false e = e
 
 -- nothing is owed
-run_paid : IsPaid (tape_of run) (state_of Streaming run)
-run_paid = record { settled = refl; shared = refl; own = λ stream on not_ended. subst (λ (n : ℕ). ((state_of Streaming run).row n).debt ≡ 0) (one_active stream on) refl }
+run_paid : IsPaid (tape_of run) (state_of 0 Streaming run)
+run_paid = record { settled = refl; shared = refl; own = λ stream on not_ended. subst (λ (n : ℕ). ((state_of 0 Streaming run).row n).debt ≡ 0) (one_active stream on) refl }
 
 -- one octet is kept, on the connection and on the stream
 one_kept : kept_in_all Streaming (tape_of run) ≡ 1
@@ -150,20 +150,22 @@ shared_room : room_on_connection (tape_of run) ≡ pos 65534
 shared_room = refl
 
 -- the stream's room
-own_room : room_on 1 (tape_of run) ≡ pos 65534
+own_room : room_on 65535 1 (tape_of run) ≡ pos 65534
 own_room = refl
 
 -- the clause holds of this run
-given_back : (known : Known) → known.setup.passing ≡ Streaming → GivesBack known (tape_of run)
-given_back known is =
-    gives_back_at_rest known run (subst (λ (p : Passing). AreAllowed p run) (sym is) run_allowed) (subst (λ (p : Passing). IsPaid (tape_of run) (state_of p run)) (sym is) run_paid)
+given_back : (known : Known) → known.setup.passing ≡ Streaming → known.setup.more_room ≡ 0 → GivesBack known (tape_of run)
+given_back known is usual =
+    gives_back_at_rest known run
+    (subst (λ n. AreAllowed n known.setup.passing run) (sym usual) (subst (λ (p : Passing). AreAllowed 0 p run) (sym is) run_allowed))
+    (subst (λ n. IsPaid (tape_of run) (state_of n known.setup.passing run)) (sym usual) (subst (λ (p : Passing). IsPaid (tape_of run) (state_of 0 p run)) (sym is) run_paid))
 
 -- The upstream may take what is put out and isn't taken, and no octet more.
-may_take_one : admits (gates_on (tape_of run)) (state_of Streaming run) (UpTook 1 1) ≡ true
+may_take_one : admits (gates_on (tape_of run)) (state_of 0 Streaming run) (UpTook 1 1) ≡ true
 may_take_one = refl
 
 -- two are too many
-not_two : admits (gates_on (tape_of run)) (state_of Streaming run) (UpTook 1 2) ≡ false
+not_two : admits (gates_on (tape_of run)) (state_of 0 Streaming run) (UpTook 1 2) ≡ false
 not_two = refl
 
 -- ---- where requests are passed on whole
@@ -179,7 +181,7 @@ whole =
     ∷ []
 
 -- it may
-whole_allowed : AreAllowed Whole whole
+whole_allowed : AreAllowed 0 Whole whole
 whole_allowed = (
   ((((tt, record { settled = refl; opens = refl; opened = (refl, refl, refl); was = none_over }), record { settled = refl; opens = refl; opened = refl; was = none_over }), tt), record { kind = refl; owed = refl }),
   record { kind = refl; owed = (refl, refl, refl) },
@@ -190,7 +192,7 @@ abbrev late : List Move
 late = Gives (update 0 3) ∷ Settles ∷ Takes (plain 0 0 1 (1 ∷ 2 ∷ 3 ∷ [])) false false ∷ Sends (plain 3 0 1 (0 ∷ 0 ∷ 0 ∷ 1 ∷ [])) true ∷ whole
 
 -- it may
-late_allowed : AreAllowed Whole late
+late_allowed : AreAllowed 0 Whole late
 late_allowed = ((((whole_allowed, record { kind = refl; active = refl; was = λ e. refl }), record { settled = refl; opens = refl; opened = refl; was = none_over }), tt), record { kind = refl; owed = refl })
 
 -- all goes back
@@ -221,7 +223,7 @@ sent_again =
     ∷ sent_once
 
 -- they may
-once_allowed : AreAllowed Streaming sent_once
+once_allowed : AreAllowed 0 Streaming sent_once
 once_allowed = (
   (
     (
@@ -236,7 +238,7 @@ once_allowed = (
   tt,
 )
 
-again_allowed : AreAllowed Streaming sent_again
+again_allowed : AreAllowed 0 Streaming sent_again
 again_allowed = (
   (
     (
@@ -252,14 +254,14 @@ again_allowed = (
 )
 
 -- its side takes the first request: what waited of its DATA is owed, and the other's waits on
-first_owed : (state_of Streaming (Hears (UpTook 1 6) ∷ sent_again)).debt ≡ 2
+first_owed : (state_of 0 Streaming (Hears (UpTook 1 6) ∷ sent_again)).debt ≡ 2
 first_owed = refl
 
-other_waits : ((state_of Streaming (Hears (UpTook 1 6) ∷ sent_again)).row 3).queue ≡ record { mark = 14; count = 3 } ∷ []
+other_waits : ((state_of 0 Streaming (Hears (UpTook 1 6) ∷ sent_again)).row 3).queue ≡ record { mark = 14; count = 3 } ∷ []
 other_waits = refl
 
 -- it takes the other one too
-both_owed : (state_of Streaming (Hears (UpTook 1 8) ∷ Hears (UpTook 1 6) ∷ sent_again)).debt ≡ 5
+both_owed : (state_of 0 Streaming (Hears (UpTook 1 8) ∷ Hears (UpTook 1 6) ∷ sent_again)).debt ≡ 5
 both_owed = refl
 
 -- ---- what isn't allowed
@@ -268,21 +270,21 @@ both_owed = refl
 abbrev begun_late : List Move
 begun_late = Takes (plain 0 1 3 (97 ∷ 98 ∷ 99 ∷ [])) false false ∷ Takes (headed 3) true false ∷ sent_once
 
-not_bare : Holds Streaming (tape_of begun_late) (state_of Streaming begun_late) (Uses 1 (codes "HEADS")) → ⊥
+not_bare : Holds Streaming (tape_of begun_late) (state_of 0 Streaming begun_late) (Uses 1 (codes "HEADS")) → ⊥
 not_bare may = let three : ◌≡◌ {A = ℕ} 3 0 = may.1 refl in absurd (omega (arith, three))
 
 -- Octets that wait aren't given back.
-too_early : Holds Streaming (tape_of padded) (state_of Streaming padded) (Gives (update 0 5)) → ⊥
+too_early : Holds Streaming (tape_of padded) (state_of 0 Streaming padded) (Gives (update 0 5)) → ⊥
 too_early may = let five : ◌≡◌ {A = ℕ} 5 0 = may.owed in absurd (omega (arith, five))
 
 -- Nothing is put out behind the end of a frame's effect, which would make octets wait that went back.
-too_late : Holds Streaming (tape_of padded) (state_of Streaming padded) (Acts (ToUp 1 (codes "x"))) → ⊥
+too_late : Holds Streaming (tape_of padded) (state_of 0 Streaming padded) (Acts (ToUp 1 (codes "x"))) → ⊥
 too_late may = absurd (let no : true ≡ false = may.in_effect refl in cc)
 
 -- Who keeps octets that are due doesn't rest.
-kept_back : IsPaid (tape_of taken_in_part) (state_of Streaming taken_in_part) → ⊥
+kept_back : IsPaid (tape_of taken_in_part) (state_of 0 Streaming taken_in_part) → ⊥
 kept_back paid = let five : ◌≡◌ {A = ℕ} 5 0 = paid.shared in absurd (omega (arith, five))
 
 -- An upstream's side that takes five of six octets lets none go back.
-none_owed : (state_of Streaming (Hears (UpTook 1 5) ∷ padded)).debt ≡ 0
+none_owed : (state_of 0 Streaming (Hears (UpTook 1 5) ∷ padded)).debt ≡ 0
 none_owed = refl

@@ -6,15 +6,14 @@ use Rattle.std.proofs.lemmas.List.Sums.{sum_by-cons}
 use Rattle.std.proofs.lemmas.Bool.{and_parts, eq-eqb, ne_eqb}
 use Rattle.std.proofs.lemmas.Bool.Decides.{eqb_tells}
 use Rattle.model.specs.Logs.{Event}
-use Rattle.model.specs.Logs.Event.{Client, ClientEnd, ClientTook, Up, UpEnd, UpFailed, UpTook}
+use Rattle.model.specs.Logs.Event.{Client, ClientEnd, ClientTook, Up, UpEnd, UpFailed, UpTook, Drain}
 use Rattle.model.specs.Setup.{Passing}
 use Rattle.model.specs.Setup.Passing.{Whole, Streaming}
 use Rattle.model.specs.Tapes.{Noted, Breach, Entry, came, sent}
 use Rattle.model.specs.Tapes.Entry.{Came, Breached, Happened}
 use Rattle.model.specs.Decoding.{completed}
-use Rattle.model.specs.Lifetimes.{opened, opens_by, is_opened, is_over, is_active}
-use Rattle.model.specs.Windows.{sending_window}
-use Rattle.model.specs.Limits.{first_window}
+use Rattle.model.specs.Lifetimes.{opened, opens_by, is_opened, is_over, is_active, is_drained}
+use Rattle.model.specs.Windows.{balance}
 use Rattle.model.specs.WindowsOnTape.{is_on, is_any, data_length, data_octets, increments}
 use Rattle.model.proofs.OpenedLaws.{opens_new}
 use Rattle.model.proofs.ActiveLaws.{active_came}
@@ -30,25 +29,25 @@ use Rattle.theory_receive_windows.proofs.Keeping.{IsQueue, Stands, Keeping, no_f
 -- ---- the streams that are kept
 
 -- no stream is kept twice
-pub live_apart : (passing : Passing) (t : List Entry) (s : State) → Keeping passing t s → AreApart s.live
-live_apart passing t s h = subst AreApart (sym h.live) (active_apart t)
+pub live_apart : (more : ℕ) (passing : Passing) (t : List Entry) (s : State) → Keeping more passing t s → AreApart s.live
+live_apart more passing t s h = subst AreApart (sym h.live) (active_apart t)
 
 -- a stream is kept where it is active
-pub live_among : (passing : Passing) (t : List Entry) (s : State) (id : ℕ) → Keeping passing t s → is_among id s.live ≡ is_active id t
-live_among passing t s id h = ap (λ ids. is_among id ids) h.live ∙ among_active t id
+pub live_among : (more : ℕ) (passing : Passing) (t : List Entry) (s : State) (id : ℕ) → Keeping more passing t s → is_among id s.live ≡ is_active id t
+live_among more passing t s id h = ap (λ ids. is_among id ids) h.live ∙ among_active t id
 
 -- What waits for a stream that is over goes back.
-pub drops : (passing : Passing) (t : List Entry) (s : State) (over : Bool) (id : ℕ) → Keeping passing t s → (over ≡ true → is_active id t ≡ true) → sum_by (held s) (unless_over over id s.live) + dropped over s id ≡ sum_by (held s) s.live
-drops passing t s true id h was = one_goes (held s) id s.live (live_apart passing t s h) (live_among passing t s id h ∙ was refl)
-drops passing t s false id h was = omega arith
+pub drops : (more : ℕ) (passing : Passing) (t : List Entry) (s : State) (over : Bool) (id : ℕ) → Keeping more passing t s → (over ≡ true → is_active id t ≡ true) → sum_by (held s) (unless_over over id s.live) + dropped over s id ≡ sum_by (held s) s.live
+drops more passing t s true id h was = one_goes (held s) id s.live (live_apart more passing t s h) (live_among more passing t s id h ∙ was refl)
+drops more passing t s false id h was = omega arith
 
 -- a window as at first: as much came as was given back
-as_much : (given came : ℕ) → sending_window first_window given came ≡ pos first_window → came ≡ given
+as_much : (given came : ℕ) → balance given came ≡ pos 0 → came ≡ given
 as_much given came e = omega (arith, ints, e)
 
 -- ---- a frame of the client
 
-module _ (passing : Passing) (t : List Entry) (s : State) (noted : Noted) (c : Counting t s) (h : Keeping passing t s) (none : s.count ≡ 0) where
+module _ (more : ℕ) (passing : Passing) (t : List Entry) (s : State) (noted : Noted) (c : Counting t s) (h : Keeping more passing t s) (none : s.count ≡ 0) where
   -- what waits for a stream that was active
   queue_came : (p : Passing) (id : ℕ) → IsQueue p t id (s.row id) s.took s.out s.settled (fresh_of s id) → IsQueue p (Came noted ∷ t) id (s.row id) s.took s.out false (if noted.frame.id == id then data_length is_any noted.frame else 0)
   queue_came Whole id q = q
@@ -83,15 +82,15 @@ module _ (passing : Passing) (t : List Entry) (s : State) (noted : Noted) (c : C
   ]
 
   -- its stream isn't opened with it
-  pub keeping_old : (over : Bool) → MayTake t s noted false over → Keeping passing (Came noted ∷ t) (with_frame s noted false over)
+  pub keeping_old : (over : Bool) → MayTake t s noted false over → Keeping more passing (Came noted ∷ t) (with_frame s noted false over)
   keeping_old over may = record {
     live =
         ap (λ ids. unless_over over noted.frame.id ids) h.live
         ∙ sym (goes_from_active t (Came noted) noted.frame.id over (ap (λ b. if b then noted.frame.id ∷ opened t else opened t) may.opens) (λ other off. active_came t noted other off) may.opened);
-    unopened = λ id out. h.unopened id (opened_before id (opens_by (opened t) (completed (came t) noted.frame) noted.note) out);
+    unopened = λ id out. h.unopened id (opened_before id (opens_by (is_drained t) (opened t) (completed (came t) noted.frame) noted.note) out);
     shared =
         let before = h.shared in
-        let goes = drops passing t s over noted.frame.id h may.was in
+        let goes = drops more passing t s over noted.frame.id h may.was in
         omega (arith, before, goes, none);
     streams = λ id on. stands_came id (came_beside over may.opened id on);
   }
@@ -109,16 +108,16 @@ module _ (passing : Passing) (t : List Entry) (s : State) (noted : Noted) (c : C
       record { own = omega (arith, same, more); connection = sym (h.unopened noted.frame.id out); queue = queue_new passing new }
 
   -- its stream is
-  pub keeping_new : MayTake t s noted true false → Keeping passing (Came noted ∷ t) (with_frame s noted true false)
+  pub keeping_new : MayTake t s noted true false → Keeping more passing (Came noted ∷ t) (with_frame s noted true false)
   keeping_new may =
       let out : is_among noted.frame.id (opened t) ≡ false = opens_new t noted may.opens in
       let idle : is_active noted.frame.id t ≡ false = ap (λ b. b && not (is_over noted.frame.id t)) out in
-      let absent : is_among noted.frame.id s.live ≡ false = live_among passing t s noted.frame.id h ∙ idle in
+      let absent : is_among noted.frame.id s.live ≡ false = live_among more passing t s noted.frame.id h ∙ idle in
       let s' : State = with_frame s noted true false in record {
         live =
             ap (λ ids. noted.frame.id ∷ ids) h.live
             ∙ sym (comes_to_active t (Came noted) noted.frame.id (ap (λ b. if b then noted.frame.id ∷ opened t else opened t) may.opens) out (λ other off. active_came t noted other off) may.opened.1);
-        unopened = λ id off. h.unopened id (opened_before id (opens_by (opened t) (completed (came t) noted.frame) noted.note) off);
+        unopened = λ id off. h.unopened id (opened_before id (opens_by (is_drained t) (opened t) (completed (came t) noted.frame) noted.note) off);
         shared =
             let before = h.shared in
             let a = sum_by-cons (held s') noted.frame.id s.live in
@@ -139,14 +138,14 @@ module _ (passing : Passing) (t : List Entry) (s : State) (noted : Noted) (c : C
 
 -- ---- what is no frame
 
-module _ (passing : Passing) (t : List Entry) (s : State) (c : Counting t s) (h : Keeping passing t s) (none : s.count ≡ 0) where
+module _ (more : ℕ) (passing : Passing) (t : List Entry) (s : State) (c : Counting t s) (h : Keeping more passing t s) (none : s.count ≡ 0) where
   -- what waits behind octets that are not read
   queue_broken : (p : Passing) (breach : Breach) (id : ℕ) → IsQueue p t id (s.row id) s.took s.out s.settled (fresh_of s id) → IsQueue p (Breached breach ∷ t) id (s.row id) s.took s.out false (fresh_of s id)
   queue_broken Whole breach id q = q
   queue_broken Streaming breach id q = waits_broken t id (s.row id) s.took s.out s.settled (fresh_of s id) (c.out (s.row id).k) q (no_fresh s id none) breach
 
   -- octets that are not read: the invariant stays
-  pub keeping_broken : (breach : Breach) → Keeping passing (Breached breach ∷ t) (record s { settled = false })
+  pub keeping_broken : (breach : Breach) → Keeping more passing (Breached breach ∷ t) (record s { settled = false })
   keeping_broken breach = record {
     live = h.live;
     unopened = h.unopened;
@@ -183,7 +182,7 @@ module _ (passing : Passing) (t : List Entry) (s : State) (c : Counting t s) (h 
       record { own = omega (arith, own, parts); connection = old.connection; queue = queue_taken passing k count id old.queue }
 
   -- an upstream took octets: the invariant stays
-  keeping_taken : (k count : ℕ) → Keeping passing (Happened (UpTook k count) ∷ t) (with_taken s k count)
+  keeping_taken : (k count : ℕ) → Keeping more passing (Happened (UpTook k count) ∷ t) (with_taken s k count)
   keeping_taken k count = record {
     live = h.live;
     unopened = h.unopened;
@@ -197,8 +196,9 @@ module _ (passing : Passing) (t : List Entry) (s : State) (c : Counting t s) (h 
   -- ---- any event
 
   -- Behind any event the invariant stays.
-  pub keeping_event : (event : Event) → Keeping passing (Happened event ∷ t) (with_event s event)
+  pub keeping_event : (event : Event) → Keeping more passing (Happened event ∷ t) (with_event s event)
   keeping_event (UpTook k count) = keeping_taken k count
+  keeping_event Drain = record { live = h.live; unopened = h.unopened; shared = h.shared; streams = stands_event Drain }
   keeping_event (Client piece) = record { live = h.live; unopened = h.unopened; shared = h.shared; streams = stands_event (Client piece) }
   keeping_event ClientEnd = record { live = h.live; unopened = h.unopened; shared = h.shared; streams = stands_event ClientEnd }
   keeping_event (ClientTook count) = record { live = h.live; unopened = h.unopened; shared = h.shared; streams = stands_event (ClientTook count) }

@@ -43,21 +43,21 @@ pub record Stands (passing : Passing) (t : List Entry) (id : ℕ) (r : Row) (too
 abbrev pub StandsIn : Passing → List Entry → State → ℕ → Type 0
 StandsIn passing t s id = Stands passing t id (s.row id) s.took s.out s.settled (fresh_of s id)
 
--- all that came
-abbrev pub Balances : List Entry → State → Type 0
-Balances t s = data_octets is_any (came t) ≡ increments 0 (sent t) + (sum_by (held s) s.live + s.count + s.debt)
+-- all that came, where the connection's window has so many octets more than 65,535
+abbrev pub Balances : ℕ → List Entry → State → Type 0
+Balances more t s = data_octets is_any (came t) + more ≡ increments 0 (sent t) + (sum_by (held s) s.live + s.count + s.debt)
 
 -- What is kept of DATA is what the tape says.
-pub record Keeping (passing : Passing) (t : List Entry) (s : State) : Type 0 where
+pub record Keeping (more : ℕ) (passing : Passing) (t : List Entry) (s : State) : Type 0 where
   pub live : s.live ≡ active t
   -- a stream that wasn't opened has no connection
   pub unopened : (id : ℕ) → is_opened id t ≡ false → connection_of id (exchanges t) ≡ 0
-  pub shared : Balances t s
+  pub shared : Balances more t s
   pub streams : (id : ℕ) → is_active id t ≡ true → StandsIn passing t s id
 
 -- nothing is kept at first
-pub keeping_start : (passing : Passing) → Keeping passing [] start
-keeping_start passing = record { live = refl; unopened = λ id out. refl; shared = refl; streams = λ id a. absurd (let no : false ≡ true = a in cc) }
+pub keeping_start : (more : ℕ) (passing : Passing) → Keeping more passing [] (start more)
+keeping_start more passing = record { live = refl; unopened = λ id out. refl; shared = omega arith; streams = λ id a. absurd (let no : false ≡ true = a in cc) }
 
 -- ---- something comes in
 

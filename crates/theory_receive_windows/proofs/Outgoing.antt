@@ -24,13 +24,13 @@ use Rattle.theory_receive_windows.proofs.Incoming.{live_apart, live_among, drops
 
 -- ---- the effect of a frame is over
 
-module _ (passing : Passing) (t : List Entry) (s : State) (c : Counting t s) (h : Keeping passing t s) where
+module _ (more : ℕ) (passing : Passing) (t : List Entry) (s : State) (c : Counting t s) (h : Keeping more passing t s) where
   -- its octets go back
   queue_back : (p : Passing) (id debt : ℕ) → is_active id t ≡ true → must_wait p s ≡ false → IsQueue p t id (s.row id) s.took s.out s.settled (fresh_of s id) → IsQueue p t id (record { k = (s.row id).k; queue = (s.row id).queue; debt = debt }) s.took s.out true 0
   queue_back Whole id debt on no_wait q = q
   queue_back Streaming id debt on no_wait q = settled_back t id (s.row id) s.took s.out s.settled (fresh_of s id) q debt (elim (eqb_tells s.stream id) [
     | inl is ↦ (
-        let live : is_live s s.stream ≡ true = live_among passing t s s.stream h ∙ ap (λ n. is_active n t) is.1 ∙ on in
+        let live : is_live s s.stream ≡ true = live_among more passing t s s.stream h ∙ ap (λ n. is_active n t) is.1 ∙ on in
         let none : nat_lt (s.took (s.row s.stream).k) (s.out (s.row s.stream).k) ≡ false = ap (λ b. b && nat_lt (s.took (s.row s.stream).k) (s.out (s.row s.stream).k)) (sym live) ∙ no_wait in
         inl (ap (λ n. nat_lt (s.took (s.row n).k) (s.out (s.row n).k)) (sym is.1) ∙ none)
         )
@@ -55,7 +55,7 @@ module _ (passing : Passing) (t : List Entry) (s : State) (c : Counting t s) (h 
   held_owing false r = refl
 
   -- they go back: the invariant stays
-  keeping_back : must_wait passing s ≡ false → Keeping passing t (settle_by false s)
+  keeping_back : must_wait passing s ≡ false → Keeping more passing t (settle_by false s)
   keeping_back no_wait = record {
     live = h.live;
     unopened = h.unopened;
@@ -67,7 +67,7 @@ module _ (passing : Passing) (t : List Entry) (s : State) (c : Counting t s) (h 
   }
 
 -- they wait
-module _ (t : List Entry) (s : State) (c : Counting t s) (h : Keeping Streaming t s) (wait : must_wait Streaming s ≡ true) where
+module _ (more : ℕ) (t : List Entry) (s : State) (c : Counting t s) (h : Keeping more Streaming t s) (wait : must_wait Streaming s ≡ true) where
   -- the stream is active, and octets for its upstream are not taken
   wait_parts : (is_live s s.stream ≡ true) × (nat_lt (s.took (s.row s.stream).k) (s.out (s.row s.stream).k) ≡ true)
   wait_parts = and_parts (is_live s s.stream) (nat_lt (s.took (s.row s.stream).k) (s.out (s.row s.stream).k)) wait
@@ -97,13 +97,13 @@ module _ (t : List Entry) (s : State) (c : Counting t s) (h : Keeping Streaming 
       ]
 
   -- they wait: the invariant stays
-  keeping_waits : Keeping Streaming t (settle_by true s)
+  keeping_waits : Keeping more Streaming t (settle_by true s)
   keeping_waits = record {
     live = h.live;
     unopened = h.unopened;
     shared =
         let before = h.shared in
-        let one = one_changes (held (settle_by true s)) (held s) s.stream s.live (live_apart Streaming t s h) (λ other off. ap (λ b. total (if b then waits (s.out (s.row s.stream).k) s.count (s.row other) else s.row other).queue) (turned other off)) wait_parts.0 in
+        let one = one_changes (held (settle_by true s)) (held s) s.stream s.live (live_apart more Streaming t s h) (λ other off. ap (λ b. total (if b then waits (s.out (s.row s.stream).k) s.count (s.row other) else s.row other).queue) (turned other off)) wait_parts.0 in
         let own : held (settle_by true s) s.stream ≡ total (push (s.row s.stream).queue (s.out (s.row s.stream).k) s.count) = ap (λ b. total (if b then waits (s.out (s.row s.stream).k) s.count (s.row s.stream) else s.row s.stream).queue) (eq-eqb s.stream s.stream refl) in
         let pushed = pushed_total (s.out (s.row s.stream).k) s.count (s.row s.stream).queue in
         omega (arith, before, one, own, pushed);
@@ -114,17 +114,17 @@ module _ (t : List Entry) (s : State) (c : Counting t s) (h : Keeping Streaming 
       turned other off = ne_eqb s.stream other (λ same. absurd (let no : true ≡ false = sym (eq-eqb other s.stream (sym same)) ∙ off in cc))
 
 -- Behind the end of a frame's effect the invariant stays.
-pub keeping_settled : (passing : Passing) (t : List Entry) (s : State) → Counting t s → Keeping passing t s → Keeping passing t (with_settled passing s)
-keeping_settled Whole t s c h = keeping_back Whole t s c h refl
-keeping_settled Streaming t s c h = by (must_wait Streaming s) refl
+pub keeping_settled : (more : ℕ) (passing : Passing) (t : List Entry) (s : State) → Counting t s → Keeping more passing t s → Keeping more passing t (with_settled passing s)
+keeping_settled more Whole t s c h = keeping_back more Whole t s c h refl
+keeping_settled more Streaming t s c h = by (must_wait Streaming s) refl
   where
-    by : (b : Bool) → must_wait Streaming s ≡ b → Keeping Streaming t (settle_by b s)
-    by true e = keeping_waits t s c h e
-    by false e = keeping_back Streaming t s c h e
+    by : (b : Bool) → must_wait Streaming s ≡ b → Keeping more Streaming t (settle_by b s)
+    by true e = keeping_waits more t s c h e
+    by false e = keeping_back more Streaming t s c h e
 
 -- ---- octets are given back
 
-module _ (passing : Passing) (t : List Entry) (s : State) (noted : Noted) (h : Keeping passing t s) where
+module _ (more : ℕ) (passing : Passing) (t : List Entry) (s : State) (noted : Noted) (h : Keeping more passing t s) where
   -- what waits behind a frame to the client
   queue_sent : (p : Passing) (id debt : ℕ) → IsQueue p t id (s.row id) s.took s.out s.settled (fresh_of s id) → IsQueue p (Sent noted ∷ t) id (record { k = (s.row id).k; queue = (s.row id).queue; debt = debt }) s.took s.out s.settled (fresh_of s id)
   queue_sent Whole id debt q = q
@@ -150,7 +150,7 @@ module _ (passing : Passing) (t : List Entry) (s : State) (noted : Noted) (h : K
   live_given kind = h.live ∙ sym (same_active t (Sent noted) refl (λ id. active_given t noted kind id))
 
   -- on the connection
-  pub keeping_shared : noted.frame.kind ≡ window_update_kind → (noted.frame.id == 0) ≡ true → increment noted.frame ≡ s.debt → Keeping passing (Sent noted ∷ t) (with_given true s noted)
+  pub keeping_shared : noted.frame.kind ≡ window_update_kind → (noted.frame.id == 0) ≡ true → increment noted.frame ≡ s.debt → Keeping more passing (Sent noted ∷ t) (with_given true s noted)
   keeping_shared kind zero owed = record {
     live = live_given kind;
     unopened = h.unopened;
@@ -184,7 +184,7 @@ module _ (passing : Passing) (t : List Entry) (s : State) (noted : Noted) (h : K
   held_paid false r = refl
 
   -- on a stream
-  pub keeping_own : noted.frame.kind ≡ window_update_kind → (noted.frame.id == 0) ≡ false → increment noted.frame ≡ (s.row noted.frame.id).debt → Keeping passing (Sent noted ∷ t) (with_given false s noted)
+  pub keeping_own : noted.frame.kind ≡ window_update_kind → (noted.frame.id == 0) ≡ false → increment noted.frame ≡ (s.row noted.frame.id).debt → Keeping more passing (Sent noted ∷ t) (with_given false s noted)
   keeping_own kind other owed = record {
     live = live_given kind;
     unopened = h.unopened;
@@ -197,10 +197,10 @@ module _ (passing : Passing) (t : List Entry) (s : State) (noted : Noted) (h : K
   }
 
   -- Behind octets that are given back the invariant stays.
-  pub keeping_given : MayGive t s noted.frame → Keeping passing (Sent noted ∷ t) (with_given (noted.frame.id == 0) s noted)
+  pub keeping_given : MayGive t s noted.frame → Keeping more passing (Sent noted ∷ t) (with_given (noted.frame.id == 0) s noted)
   keeping_given may = by (noted.frame.id == 0) refl may.owed
     where
-      by : (b : Bool) → (noted.frame.id == 0) ≡ b → IsOwed t s noted.frame b → Keeping passing (Sent noted ∷ t) (with_given b s noted)
+      by : (b : Bool) → (noted.frame.id == 0) ≡ b → IsOwed t s noted.frame b → Keeping more passing (Sent noted ∷ t) (with_given b s noted)
       by true e owed = keeping_shared may.kind e owed
       by false e owed = keeping_own may.kind e owed.2
 
@@ -221,13 +221,13 @@ module _ (passing : Passing) (t : List Entry) (s : State) (noted : Noted) (h : K
   ]
 
   -- Behind any other frame the invariant stays.
-  pub keeping_sent : (over : Bool) → MaySend t noted over → Keeping passing (Sent noted ∷ t) (with_sent s noted over)
+  pub keeping_sent : (over : Bool) → MaySend t noted over → Keeping more passing (Sent noted ∷ t) (with_sent s noted over)
   keeping_sent over may = record {
     live = ap (λ ids. unless_over over noted.frame.id ids) h.live ∙ sym (goes_from_active t (Sent noted) noted.frame.id over refl (λ other off. active_beside t noted other off) may.active);
     unopened = h.unopened;
     shared =
         let before = h.shared in
-        let goes = drops passing t s over noted.frame.id h may.was in
+        let goes = drops more passing t s over noted.frame.id h may.was in
         let grant = grants_none 0 may.kind in
         omega (arith, before, goes, grant);
     streams = λ id on. stands_sent id (sent_beside over may.active id on) (grants_none id may.kind);

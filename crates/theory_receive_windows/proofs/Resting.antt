@@ -5,7 +5,7 @@ use Rattle.std.proofs.lemmas.Int.{ints}
 use Rattle.std.proofs.lemmas.Bool.{eq-eqb}
 use Rattle.model.specs.Frames.{window_update_kind}
 use Rattle.model.specs.Logs.Act.{Open, ToUp, Close, CloseClient}
-use Rattle.model.specs.Setup.{Passing}
+use Rattle.model.specs.Setup.{Passing, own_window}
 use Rattle.model.specs.Setup.Passing.{Whole, Streaming}
 use Rattle.model.specs.Tapes.{Noted, Entry, came, sent, sent_up}
 use Rattle.model.specs.Tapes.Entry.{Sent}
@@ -30,65 +30,69 @@ use Rattle.theory_receive_windows.proofs.Outgoing.{keeping_settled, keeping_give
 use Rattle.theory_receive_windows.proofs.Acting.{keeping_put, keeping_used, keeping_opened, keeping_closed, keeping_shut}
 
 -- All that holds behind each move.
-pub record Receiving (passing : Passing) (t : List Entry) (s : State) : Type 0 where
+pub record Receiving (more : ℕ) (passing : Passing) (t : List Entry) (s : State) : Type 0 where
   pub counting : Counting t s
-  pub keeping : Keeping passing t s
-  pub no_more : GivesNoMore t
+  pub keeping : Keeping more passing t s
+  pub no_more : GivesNoMore (first_window + more) t
 
 -- nothing came
-pub receiving_start : (passing : Passing) → Receiving passing [] start
-receiving_start passing = record { counting = counting_start; keeping = keeping_start passing; no_more = tt }
+pub receiving_start : (more : ℕ) (passing : Passing) → Receiving more passing [] (start more)
+receiving_start more passing = record { counting = counting_start more; keeping = keeping_start more passing; no_more = tt }
 
 -- ---- each move
 
 -- what is kept behind any move
-keeping_step : (passing : Passing) (t : List Entry) (s : State) (m : Move) → Counting t s → Keeping passing t s → Holds passing t s m → Keeping passing (entries_of m ++ t) (after passing s m)
-keeping_step passing t s (Takes noted true true) c h may = absurd (let no : true ≡ false = may.opened.0 in cc)
-keeping_step passing t s (Takes noted true false) c h may = keeping_new passing t s noted c h may.settled may
-keeping_step passing t s (Takes noted false over) c h may = keeping_old passing t s noted c h may.settled over may
-keeping_step passing t s (Breaks breach) c h may = keeping_broken passing t s c h may breach
-keeping_step passing t s (Hears event) c h may = keeping_event passing t s c h may.settled event
-keeping_step passing t s Settles c h may = keeping_settled passing t s c h
-keeping_step passing t s (Gives noted) c h may = keeping_given passing t s noted h may
-keeping_step passing t s (Sends noted over) c h may = keeping_sent passing t s noted h over may
-keeping_step passing t s (Uses k octets) c h may = keeping_used passing t s c h k octets may.0 may.1
-keeping_step passing t s (Acts (Open k route)) c h may = keeping_opened passing t s c h k route may
-keeping_step passing t s (Acts (ToUp k octets)) c h may = keeping_put passing t s c h k octets may
-keeping_step passing t s (Acts (Close k)) c h may = keeping_closed passing t s c h k
-keeping_step passing t s (Acts CloseClient) c h may = keeping_shut passing t s c h
+keeping_step : (more : ℕ) (passing : Passing) (t : List Entry) (s : State) (m : Move) → Counting t s → Keeping more passing t s → Holds passing t s m → Keeping more passing (entries_of m ++ t) (after passing s m)
+keeping_step more passing t s (Takes noted true true) c h may = absurd (let no : true ≡ false = may.opened.0 in cc)
+keeping_step more passing t s (Takes noted true false) c h may = keeping_new more passing t s noted c h may.settled may
+keeping_step more passing t s (Takes noted false over) c h may = keeping_old more passing t s noted c h may.settled over may
+keeping_step more passing t s (Breaks breach) c h may = keeping_broken more passing t s c h may breach
+keeping_step more passing t s (Hears event) c h may = keeping_event more passing t s c h may.settled event
+keeping_step more passing t s Settles c h may = keeping_settled more passing t s c h
+keeping_step more passing t s (Gives noted) c h may = keeping_given more passing t s noted h may
+keeping_step more passing t s (Sends noted over) c h may = keeping_sent more passing t s noted h over may
+keeping_step more passing t s (Uses k octets) c h may = keeping_used more passing t s c h k octets may.0 may.1
+keeping_step more passing t s (Acts (Open k route)) c h may = keeping_opened more passing t s c h k route may
+keeping_step more passing t s (Acts (ToUp k octets)) c h may = keeping_put more passing t s c h k octets may
+keeping_step more passing t s (Acts (Close k)) c h may = keeping_closed more passing t s c h k
+keeping_step more passing t s (Acts CloseClient) c h may = keeping_shut more passing t s c h
 
 -- no more was given back than came
-below : (given came rest : ℕ) → came ≡ given + rest → sending_window first_window given came ≤ℤ pos first_window
-below given came rest e = omega (arith, ints, e)
+below : (own given came rest : ℕ) → came ≡ given + rest → sending_window own given came ≤ℤ pos own
+below own given came rest e = omega (arith, ints, e)
+
+-- nor on the connection, whose window was made larger by so many octets
+shared_below : (more given came rest : ℕ) → came + more ≡ given + rest → sending_window first_window given came ≤ℤ pos (first_window + more)
+shared_below more given came rest e = omega (arith, ints, e)
 
 -- a frame that gives octets back, on the connection or on a stream
-no_more_given : (passing : Passing) (t : List Entry) (s : State) (noted : Noted) → Keeping passing (Sent noted ∷ t) s → noted.frame.kind ≡ window_update_kind → (b : Bool) → (b ≡ false → is_active noted.frame.id t ≡ true) → (if b then room_on_connection (Sent noted ∷ t) else room_on noted.frame.id (Sent noted ∷ t)) ≤ℤ pos first_window
-no_more_given passing t s noted h kind true on = below (increments 0 (sent (Sent noted ∷ t))) (data_octets is_any (came t)) _ h.shared
-no_more_given passing t s noted h kind false on =
+no_more_given : (more : ℕ) (passing : Passing) (t : List Entry) (s : State) (noted : Noted) → Keeping more passing (Sent noted ∷ t) s → noted.frame.kind ≡ window_update_kind → (b : Bool) → (b ≡ false → is_active noted.frame.id t ≡ true) → (if b then room_on_connection (Sent noted ∷ t) else room_on (first_window + more) noted.frame.id (Sent noted ∷ t)) ≤ℤ pos (first_window + more)
+no_more_given more passing t s noted h kind true on = shared_below more (increments 0 (sent (Sent noted ∷ t))) (data_octets is_any (came t)) _ h.shared
+no_more_given more passing t s noted h kind false on =
     let here : is_active noted.frame.id (Sent noted ∷ t) ≡ true = active_given t noted kind noted.frame.id ∙ on refl in
-    below (increments noted.frame.id (sent (Sent noted ∷ t))) (data_octets (is_on noted.frame.id) (came t)) _ (h.streams noted.frame.id here).own
+    below (first_window + more) (increments noted.frame.id (sent (Sent noted ∷ t))) (data_octets (is_on noted.frame.id) (came t)) _ (h.streams noted.frame.id here).own
 
 -- any move
-no_more_step : (passing : Passing) (t : List Entry) (s : State) (m : Move) → Keeping passing (entries_of m ++ t) (after passing s m) → GivesNoMore t → Holds passing t s m → GivesNoMore (entries_of m ++ t)
-no_more_step passing t s (Takes noted opens over) h g may = g
-no_more_step passing t s (Breaks breach) h g may = g
-no_more_step passing t s (Hears event) h g may = g
-no_more_step passing t s Settles h g may = g
-no_more_step passing t s (Gives noted) h g may = (λ kind. no_more_given passing t (after passing s (Gives noted)) noted h kind (noted.frame.id == 0) (λ other. (subst (λ b. IsOwed t s noted.frame b) other may.owed).0), g)
-no_more_step passing t s (Sends noted over) h g may = (λ kind. absurd (let no : true ≡ false = sym (eq-eqb noted.frame.kind window_update_kind kind) ∙ may.kind in cc), g)
-no_more_step passing t s (Uses k octets) h g may = g
-no_more_step passing t s (Acts act) h g may = g
+no_more_step : (more : ℕ) (passing : Passing) (t : List Entry) (s : State) (m : Move) → Keeping more passing (entries_of m ++ t) (after passing s m) → GivesNoMore (first_window + more) t → Holds passing t s m → GivesNoMore (first_window + more) (entries_of m ++ t)
+no_more_step more passing t s (Takes noted opens over) h g may = g
+no_more_step more passing t s (Breaks breach) h g may = g
+no_more_step more passing t s (Hears event) h g may = g
+no_more_step more passing t s Settles h g may = g
+no_more_step more passing t s (Gives noted) h g may = (λ kind. no_more_given more passing t (after passing s (Gives noted)) noted h kind (noted.frame.id == 0) (λ other. (subst (λ b. IsOwed t s noted.frame b) other may.owed).0), g)
+no_more_step more passing t s (Sends noted over) h g may = (λ kind. absurd (let no : true ≡ false = sym (eq-eqb noted.frame.kind window_update_kind kind) ∙ may.kind in cc), g)
+no_more_step more passing t s (Uses k octets) h g may = g
+no_more_step more passing t s (Acts act) h g may = g
 
 -- Each move that is allowed keeps the invariant.
-pub receiving_step : (passing : Passing) (t : List Entry) (s : State) (m : Move) → Receiving passing t s → Holds passing t s m → Receiving passing (entries_of m ++ t) (after passing s m)
-receiving_step passing t s m h may =
-    let keeping : Keeping passing (entries_of m ++ t) (after passing s m) = keeping_step passing t s m h.counting h.keeping may in
-    record { counting = counting_step passing t s m h.counting may; keeping = keeping; no_more = no_more_step passing t s m keeping h.no_more may }
+pub receiving_step : (more : ℕ) (passing : Passing) (t : List Entry) (s : State) (m : Move) → Receiving more passing t s → Holds passing t s m → Receiving more passing (entries_of m ++ t) (after passing s m)
+receiving_step more passing t s m h may =
+    let keeping : Keeping more passing (entries_of m ++ t) (after passing s m) = keeping_step more passing t s m h.counting h.keeping may in
+    record { counting = counting_step passing t s m h.counting may; keeping = keeping; no_more = no_more_step more passing t s m keeping h.no_more may }
 
 -- Moves that are allowed keep it.
-pub receiving : (passing : Passing) (moves : List Move) → AreAllowed passing moves → Receiving passing (tape_of moves) (state_of passing moves)
-receiving passing [] all = receiving_start passing
-receiving passing (m ∷ ms) all = receiving_step passing (tape_of ms) (state_of passing ms) m (receiving passing ms all.0) all.1
+pub receiving : (more : ℕ) (passing : Passing) (moves : List Move) → AreAllowed more passing moves → Receiving more passing (tape_of moves) (state_of more passing moves)
+receiving more passing [] all = receiving_start more passing
+receiving more passing (m ∷ ms) all = receiving_step more passing (tape_of ms) (state_of more passing ms) m (receiving more passing ms all.0) all.1
 
 -- ---- at rest
 
@@ -114,66 +118,72 @@ module _ (t : List Entry) (s : State) (c : Counting t s) (none : s.count ≡ 0) 
       either false n e = refl
 
   -- what waits for all streams is what is kept for them
-  all_kept : (passing : Passing) → Keeping passing t s → sum_by (held s) s.live ≡ kept_in_all passing t
-  all_kept passing h =
+  all_kept : (more : ℕ) (passing : Passing) → Keeping more passing t s → sum_by (held s) s.live ≡ kept_in_all passing t
+  all_kept more passing h =
       same_sum (held s) (λ id. kept passing id t) s.live (λ id among. held_kept passing id (h.streams id (sym (among_active t id) ∙ ap (λ ids. is_among id ids) (sym h.live) ∙ among)))
       ∙ ap (λ ids. sum_by (λ id. kept passing id t) ids) h.live
 
 -- a window with as much less
-less : (given came rest : ℕ) → came ≡ given + rest → sending_window first_window given came ≡ (pos first_window -ℤ pos rest)
-less given came rest e = omega (arith, ints, e)
+less : (own given came rest : ℕ) → came ≡ given + rest → sending_window own given came ≡ (pos own -ℤ pos rest)
+less own given came rest e = omega (arith, ints, e)
+
+shared_less : (more given came rest : ℕ) → came + more ≡ given + rest → sending_window first_window given came ≡ (pos (first_window + more) -ℤ pos rest)
+shared_less more given came rest e = omega (arith, ints, e)
 
 -- Each receiving window is as at first, but for what is kept.
-pub gives_back : (known : Known) (t : List Entry) (s : State) → Receiving known.setup.passing t s → IsPaid t s → GivesBack known t
+pub gives_back : (known : Known) (t : List Entry) (s : State) → Receiving known.setup.more_room known.setup.passing t s → IsPaid t s → GivesBack known t
 gives_back known t s h paid = record {
   shared =
       let before = h.keeping.shared in
       let none = paid.settled in
       let owed = paid.shared in
-      let all = all_kept t s h.counting paid.settled known.setup.passing h.keeping in
-      less (increments 0 (sent t)) (data_octets is_any (came t)) (kept_in_all known.setup.passing t) (omega (arith, before, none, owed, all));
+      let all = all_kept t s h.counting paid.settled known.setup.more_room known.setup.passing h.keeping in
+      shared_less known.setup.more_room (increments 0 (sent t)) (data_octets is_any (came t)) (kept_in_all known.setup.passing t) (omega (arith, before, none, owed, all));
   own = λ stream on not_ended.
       let stands = h.keeping.streams stream on in
       let own = stands.own in
       let fresh = no_fresh s stream paid.settled in
       let owed = paid.own stream on not_ended in
       let same = held_kept t s h.counting paid.settled known.setup.passing stream stands in
-      less (increments stream (sent t)) (data_octets (is_on stream) (came t)) (kept known.setup.passing stream t) (omega (arith, own, fresh, owed, same));
+      less (own_window known.setup) (increments stream (sent t)) (data_octets (is_on stream) (came t)) (kept known.setup.passing stream t) (omega (arith, own, fresh, owed, same));
 }
 
 -- a window with less than that
-under : (given came rest : ℕ) → given + rest < came → sending_window first_window given came <ℤ (pos first_window -ℤ pos rest)
-under given came rest e = omega (arith, ints, e)
+under : (own given came rest : ℕ) → given + rest < came → sending_window own given came <ℤ (pos own -ℤ pos rest)
+under own given came rest e = omega (arith, ints, e)
+
+shared_under : (more given came rest : ℕ) → given + rest < came + more → sending_window first_window given came <ℤ (pos (first_window + more) -ℤ pos rest)
+shared_under more given came rest e = omega (arith, ints, e)
 
 -- Where octets are owed they go back.
-pub shared_goes_back : (passing : Passing) (t : List Entry) (s : State) → Receiving passing t s → s.count ≡ 0 → 0 < s.debt → GoesBack passing t
-shared_goes_back passing t s h none some =
+pub shared_goes_back : (more : ℕ) (passing : Passing) (t : List Entry) (s : State) → Receiving more passing t s → s.count ≡ 0 → 0 < s.debt → GoesBack (first_window + more) passing t
+shared_goes_back more passing t s h none some =
     let before = h.keeping.shared in
-    let all = all_kept t s h.counting none passing h.keeping in
-    inl (under (increments 0 (sent t)) (data_octets is_any (came t)) (kept_in_all passing t) (omega (arith, before, none, all, some)))
+    let all = all_kept t s h.counting none more passing h.keeping in
+    inl (shared_under more (increments 0 (sent t)) (data_octets is_any (came t)) (kept_in_all passing t) (omega (arith, before, none, all, some)))
 
-pub own_goes_back : (passing : Passing) (t : List Entry) (s : State) (stream : ℕ) → Receiving passing t s → s.count ≡ 0 → is_active stream t ≡ true → is_ended_by_client stream t ≡ false → 0 < (s.row stream).debt → GoesBack passing t
-own_goes_back passing t s stream h none on open_yet some =
+pub own_goes_back : (more : ℕ) (passing : Passing) (t : List Entry) (s : State) (stream : ℕ) → Receiving more passing t s → s.count ≡ 0 → is_active stream t ≡ true → is_ended_by_client stream t ≡ false → 0 < (s.row stream).debt → GoesBack (first_window + more) passing t
+own_goes_back more passing t s stream h none on open_yet some =
     let stands = h.keeping.streams stream on in
     let own = stands.own in
     let fresh = no_fresh s stream none in
     let same = held_kept t s h.counting none passing stream stands in
-    inr (stream, on, open_yet, under (increments stream (sent t)) (data_octets (is_on stream) (came t)) (kept passing stream t) (omega (arith, own, fresh, same, some)))
+    inr (stream, on, open_yet, under (first_window + more) (increments stream (sent t)) (data_octets (is_on stream) (came t)) (kept passing stream t) (omega (arith, own, fresh, same, some)))
 
 -- Behind moves that are allowed it holds.
-pub gives_back_at_rest : (known : Known) (moves : List Move) → AreAllowed known.setup.passing moves → IsPaid (tape_of moves) (state_of known.setup.passing moves) → GivesBack known (tape_of moves)
-gives_back_at_rest known moves all paid = gives_back known (tape_of moves) (state_of known.setup.passing moves) (receiving known.setup.passing moves all) paid
+pub gives_back_at_rest : (known : Known) (moves : List Move) → AreAllowed known.setup.more_room known.setup.passing moves → IsPaid (tape_of moves) (state_of known.setup.more_room known.setup.passing moves) → GivesBack known (tape_of moves)
+gives_back_at_rest known moves all paid = gives_back known (tape_of moves) (state_of known.setup.more_room known.setup.passing moves) (receiving known.setup.more_room known.setup.passing moves all) paid
 
 -- nothing is given back that did not come
-pub gives_no_more : (passing : Passing) (moves : List Move) → AreAllowed passing moves → GivesNoMore (tape_of moves)
-gives_no_more passing moves all = (receiving passing moves all).no_more
+pub gives_no_more : (more : ℕ) (passing : Passing) (moves : List Move) → AreAllowed more passing moves → GivesNoMore (first_window + more) (tape_of moves)
+gives_no_more more passing moves all = (receiving more passing moves all).no_more
 
 -- ---- the rooms now
 
 -- Each room is as at first, without what waits, what came last, and what is owed.
-pub shared_room : (passing : Passing) (t : List Entry) (s : State) → Receiving passing t s → room_on_connection t ≡ pos first_window -ℤ pos (sum_by (held s) s.live + s.count + s.debt)
-shared_room passing t s h = less (increments 0 (sent t)) (data_octets is_any (came t)) _ h.keeping.shared
+pub shared_room : (more : ℕ) (passing : Passing) (t : List Entry) (s : State) → Receiving more passing t s → room_on_connection t ≡ pos (first_window + more) -ℤ pos (sum_by (held s) s.live + s.count + s.debt)
+shared_room more passing t s h = shared_less more (increments 0 (sent t)) (data_octets is_any (came t)) _ h.keeping.shared
 
 -- the same of an active stream
-pub own_room : (passing : Passing) (t : List Entry) (s : State) (id : ℕ) → Receiving passing t s → is_active id t ≡ true → room_on id t ≡ pos first_window -ℤ pos (held s id + fresh_of s id + (s.row id).debt)
-own_room passing t s id h on = less (increments id (sent t)) (data_octets (is_on id) (came t)) _ (h.keeping.streams id on).own
+pub own_room : (more : ℕ) (passing : Passing) (t : List Entry) (s : State) (id : ℕ) → Receiving more passing t s → is_active id t ≡ true → room_on (first_window + more) id t ≡ pos (first_window + more) -ℤ pos (held s id + fresh_of s id + (s.row id).debt)
+own_room more passing t s id h on = less (first_window + more) (increments id (sent t)) (data_octets (is_on id) (came t)) _ (h.keeping.streams id on).own

@@ -20,7 +20,7 @@ none_returned : (passing : Passing) (t : List Entry) (s : State) (id : ℕ) → 
 none_returned Whole t s id h = ap (λ ms. released (s.took (s.row id).k) ms) h.queue
 none_returned Streaming t s id h = (none_popped (s.took (s.row id).k) (s.row id).queue h.queue.above).1
 
-module _ (passing : Passing) (t : List Entry) (s : State) (h : Receiving passing t s) (k count id : ℕ) (on : is_active id t ≡ true) (apart : (other : ℕ) → other ≢ id → is_active other t ≡ true → (s.row other).k ≢ k) where
+module _ (more : ℕ) (passing : Passing) (t : List Entry) (s : State) (h : Receiving more passing t s) (k count id : ℕ) (on : is_active id t ≡ true) (apart : (other : ℕ) → other ≢ id → is_active other t ≡ true → (s.row other).k ≢ k) where
   -- nothing of another stream goes back
   others_return_none : (other : ℕ) → is_active other t ≡ true → (other == id) ≡ false → released (add k count s.took (s.row other).k) (s.row other).queue ≡ 0
   others_return_none other active off =
@@ -29,9 +29,9 @@ module _ (passing : Passing) (t : List Entry) (s : State) (h : Receiving passing
 
   -- what goes back is the one stream's
   pub one_returns : (with_taken s k count).debt ≡ s.debt + released (add k count s.took (s.row id).k) (s.row id).queue
-  one_returns = ap (λ n. s.debt + n) (only_among (λ other. released (add k count s.took (s.row other).k) (s.row other).queue) id s.live (live_apart passing t s h.keeping) (live_among passing t s id h.keeping ∙ on) (λ other among off. others_return_none other (sym (live_among passing t s other h.keeping) ∙ among) off))
+  one_returns = ap (λ n. s.debt + n) (only_among (λ other. released (add k count s.took (s.row other).k) (s.row other).queue) id s.live (live_apart more passing t s h.keeping) (live_among more passing t s id h.keeping ∙ on) (λ other among off. others_return_none other (sym (live_among more passing t s other h.keeping) ∙ among) off))
 
 -- the same behind moves that are allowed
-pub one_returns_of_moves : (passing : Passing) (moves : List Move) (k count id : ℕ) → AreAllowed passing moves → is_active id (tape_of moves) ≡ true → ((other : ℕ) → other ≢ id → is_active other (tape_of moves) ≡ true → ((state_of passing moves).row other).k ≢ k)
-    → (with_taken (state_of passing moves) k count).debt ≡ (state_of passing moves).debt + released (add k count (state_of passing moves).took ((state_of passing moves).row id).k) ((state_of passing moves).row id).queue
-one_returns_of_moves passing moves k count id all on apart = one_returns passing (tape_of moves) (state_of passing moves) (receiving passing moves all) k count id on apart
+pub one_returns_of_moves : (more : ℕ) (passing : Passing) (moves : List Move) (k count id : ℕ) → AreAllowed more passing moves → is_active id (tape_of moves) ≡ true → ((other : ℕ) → other ≢ id → is_active other (tape_of moves) ≡ true → ((state_of more passing moves).row other).k ≢ k)
+    → (with_taken (state_of more passing moves) k count).debt ≡ (state_of more passing moves).debt + released (add k count (state_of more passing moves).took ((state_of more passing moves).row id).k) ((state_of more passing moves).row id).queue
+one_returns_of_moves more passing moves k count id all on apart = one_returns more passing (tape_of moves) (state_of more passing moves) (receiving more passing moves all) k count id on apart

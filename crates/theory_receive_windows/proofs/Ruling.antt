@@ -6,11 +6,11 @@ use Rattle.model.specs.Tapes.{Noted, Entry, came}
 use Rattle.model.specs.Tapes.Entry.{Came, Sent}
 use Rattle.model.specs.Logs.{Act}
 use Rattle.model.specs.Logs.Act.{Open, ToUp, Close, CloseClient}
-use Rattle.model.specs.Setup.{Passing}
+use Rattle.model.specs.Setup.{Passing, own_window}
 use Rattle.model.specs.Decoding.{completed}
 use Rattle.model.specs.Known.{Known}
 use Rattle.model.specs.Openings.{last_stream, begins_another}
-use Rattle.model.specs.Lifetimes.{opened, opens_by, is_opened, active, is_active}
+use Rattle.model.specs.Lifetimes.{opened, opens_by, is_opened, active, is_active, is_drained}
 use Rattle.model.specs.WindowClause.{GivesBack, GoesBack}
 use Rattle.model.specs.Headline.{HoldsInTurn}
 use Rattle.model.proofs.OpenedLaws.{opens_own, opens_new}
@@ -27,8 +27,8 @@ use Rattle.theory_receive_windows.proofs.Resting.{receiving, gives_back_at_rest,
 use Rattle.theory_receive_windows.proofs.Withholding.{holds_back}
 
 -- a frame opens its stream just where that wasn't opened before and is behind it
-opens_told : (t : List Entry) (noted : Noted) → opens_by (opened t) (completed (came t) noted.frame) noted.note ≡ (not (is_opened noted.frame.id t) && is_opened noted.frame.id (Came noted ∷ t))
-opens_told t noted = by (opens_by (opened t) (completed (came t) noted.frame) noted.note) refl
+opens_told : (t : List Entry) (noted : Noted) → opens_by (is_drained t) (opened t) (completed (came t) noted.frame) noted.note ≡ (not (is_opened noted.frame.id t) && is_opened noted.frame.id (Came noted ∷ t))
+opens_told t noted = by (opens_by (is_drained t) (opened t) (completed (came t) noted.frame) noted.note) refl
   where
     id : ℕ
     id = noted.frame.id
@@ -37,7 +37,7 @@ opens_told t noted = by (opens_by (opened t) (completed (came t) noted.frame) no
     never true = refl
     never false = refl
 
-    by : (b : Bool) → opens_by (opened t) (completed (came t) noted.frame) noted.note ≡ b → b ≡ (not (is_opened noted.frame.id t) && list_any (λ other. other == noted.frame.id) (if b then noted.frame.id ∷ opened t else opened t))
+    by : (b : Bool) → opens_by (is_drained t) (opened t) (completed (came t) noted.frame) noted.note ≡ b → b ≡ (not (is_opened noted.frame.id t) && list_any (λ other. other == noted.frame.id) (if b then noted.frame.id ∷ opened t else opened t))
     by true e =
         sym (ap (λ x. not x && (noted.frame.id == noted.frame.id || is_opened noted.frame.id t)) (opens_new t noted e) ∙ ap (λ x. x || is_opened noted.frame.id t) (eq-eqb noted.frame.id noted.frame.id refl))
     by false e = never (is_opened noted.frame.id t)
@@ -51,11 +51,11 @@ module _ (known : Known) (t : List Entry) (s : State) (noted : Noted) (before be
   -- ---- a frame of the client
 
   -- whether it opens its stream
-  opens_read : IsRightOf known (Came noted ∷ t) behind → (opens : Bool) → opens ≡ (not (before.opened noted.frame.id) && behind.opened noted.frame.id) → opens_by (opened t) (completed (came t) noted.frame) noted.note ≡ opens
+  opens_read : IsRightOf known (Came noted ∷ t) behind → (opens : Bool) → opens ≡ (not (before.opened noted.frame.id) && behind.opened noted.frame.id) → opens_by (is_drained t) (opened t) (completed (came t) noted.frame) noted.note ≡ opens
   opens_read now opens is = opens_told t noted ∙ sym (ap (λ b. not b && is_opened noted.frame.id (Came noted ∷ t)) (right.opened noted.frame.id)) ∙ sym (ap (λ b. not (before.opened noted.frame.id) && b) (now.opened noted.frame.id)) ∙ sym is
 
   -- its life, where it opens its stream
-  opened_new : before.ends ≡ false → IsRightOf known (Came noted ∷ t) behind → opens_by (opened t) (completed (came t) noted.frame) noted.note ≡ true → (over : Bool) → over ≡ is_over_by before behind noted.frame.id → behind.active noted.frame.id ≡ true → IsOpened t noted true over
+  opened_new : before.ends ≡ false → IsRightOf known (Came noted ∷ t) behind → opens_by (is_drained t) (opened t) (completed (came t) noted.frame) noted.note ≡ true → (over : Bool) → over ≡ is_over_by before behind noted.frame.id → behind.active noted.frame.id ≡ true → IsOpened t noted true over
   opened_new goes_on now by over is on = (
     is ∙ ap (λ b. before.active noted.frame.id && not b) on ∙ and_right (before.active noted.frame.id) false refl,
     sym (now.active noted.frame.id) ∙ on,
@@ -63,7 +63,7 @@ module _ (known : Known) (t : List Entry) (s : State) (noted : Noted) (before be
   )
 
   -- and where it doesn't
-  opened_old : IsRightOf known (Came noted ∷ t) behind → opens_by (opened t) (completed (came t) noted.frame) noted.note ≡ false → (over : Bool) → over ≡ is_over_by before behind noted.frame.id → IsOpened t noted false over
+  opened_old : IsRightOf known (Came noted ∷ t) behind → opens_by (is_drained t) (opened t) (completed (came t) noted.frame) noted.note ≡ false → (over : Bool) → over ≡ is_over_by before behind noted.frame.id → IsOpened t noted false over
   opened_old now none over is =
       by (before.active noted.frame.id) (behind.active noted.frame.id) (right.active noted.frame.id) (now.active noted.frame.id) ∙ ap (λ b. is_active noted.frame.id t && not b) (sym is)
     where
@@ -145,81 +145,84 @@ last_told known passing [] right = record { is_up = λ k. refl; given = λ k. re
 last_told known passing (x ∷ run) right = right.2
 
 -- So a run is allowed, and the state of what is kept and told is that of its moves.
-record Follows (passing : Passing) (run : List Seen) : Type 0 where
-  pub allowed : AreAllowed passing (moves_of run)
-  pub same : state_behind passing run ≡ state_of passing (moves_of run)
+record Follows (more : ℕ) (passing : Passing) (run : List Seen) : Type 0 where
+  pub allowed : AreAllowed more passing (moves_of run)
+  pub same : state_behind more passing run ≡ state_of more passing (moves_of run)
 
 -- the state of moves is what is kept of it, with what the tape tells
 told_again : (t : List Entry) (s : State) (gates : Gates) → AreGates t gates → s.live ≡ active t → s.stream ≡ last_stream t → state_with gates (kept_of s) ≡ s
 told_again t s gates told live last =
     ap (λ (ids : List ℕ). with_told ids gates.last (kept_of s)) (told.live ∙ sym live) ∙ ap (λ (id : ℕ). with_told s.live id (kept_of s)) (told.last ∙ sym last)
 
-follows : (known : Known) (passing : Passing) (run : List Seen) → AllMayCome passing run → AreRight known passing run → Follows passing run
-follows known passing [] may right = record { allowed = tt; same = refl }
-follows known passing (x ∷ run) may right =
-    let before : Follows passing run = follows known passing run may.0 right.0 in
-    let here : MayCome passing (gates_of run) (sight_of run) x.sight (state_of passing (moves_of run)) x.move = subst (λ (s : State). MayCome passing (gates_of run) (sight_of run) x.sight s x.move) before.same may.1 in
-    let all : AreAllowed passing (moves_of (x ∷ run)) = (before.allowed, allowed_by known passing (tape_of (moves_of run)) (state_of passing (moves_of run)) (gates_of run) (sight_of run) x.sight x.move (last_told known passing run right.0) (last_right known passing run right.0) right.1 right.3 here) in
-    let kept = receiving passing (moves_of (x ∷ run)) all in
+follows : (known : Known) (more : ℕ) (passing : Passing) (run : List Seen) → AllMayCome more passing run → AreRight known passing run → Follows more passing run
+follows known more passing [] may right = record { allowed = tt; same = refl }
+follows known more passing (x ∷ run) may right =
+    let before : Follows more passing run = follows known more passing run may.0 right.0 in
+    let here : MayCome passing (gates_of run) (sight_of run) x.sight (state_of more passing (moves_of run)) x.move = subst (λ (s : State). MayCome passing (gates_of run) (sight_of run) x.sight s x.move) before.same may.1 in
+    let all : AreAllowed more passing (moves_of (x ∷ run)) = (before.allowed, allowed_by known passing (tape_of (moves_of run)) (state_of more passing (moves_of run)) (gates_of run) (sight_of run) x.sight x.move (last_told known passing run right.0) (last_right known passing run right.0) right.1 right.3 here) in
+    let kept = receiving more passing (moves_of (x ∷ run)) all in
     record {
       allowed = all;
       same =
           ap (λ (s : State). state_with x.gates (kept_of (after passing s x.move))) before.same
-          ∙ told_again (tape_of (moves_of (x ∷ run))) (state_of passing (moves_of (x ∷ run))) x.gates right.2 kept.keeping.live kept.counting.last;
+          ∙ told_again (tape_of (moves_of (x ∷ run))) (state_of more passing (moves_of (x ∷ run))) x.gates right.2 kept.keeping.live kept.counting.last;
     }
 
-pub all_allowed : (known : Known) (passing : Passing) (run : List Seen) → AllMayCome passing run → AreRight known passing run → AreAllowed passing (moves_of run)
-all_allowed known passing run may right = (follows known passing run may right).allowed
+pub all_allowed : (known : Known) (more : ℕ) (passing : Passing) (run : List Seen) → AllMayCome more passing run → AreRight known passing run → AreAllowed more passing (moves_of run)
+all_allowed known more passing run may right = (follows known more passing run may right).allowed
 
-pub state_same : (known : Known) (passing : Passing) (run : List Seen) → AllMayCome passing run → AreRight known passing run → state_behind passing run ≡ state_of passing (moves_of run)
-state_same known passing run may right = (follows known passing run may right).same
+pub state_same : (known : Known) (more : ℕ) (passing : Passing) (run : List Seen) → AllMayCome more passing run → AreRight known passing run → state_behind more passing run ≡ state_of more passing (moves_of run)
+state_same known more passing run may right = (follows known more passing run may right).same
 
 -- nothing is owed by the tape where nothing is by the states
 paid_by : (known : Known) (t : List Entry) (s : State) (sight : Sight) → IsRightOf known t sight → OwesNothing sight s → IsPaid t s
 paid_by known t s sight right none = record { settled = none.settled; shared = none.shared; own = λ stream on open_yet. none.own stream (right.active stream ∙ on) (right.ended stream on ∙ open_yet) }
 
 -- Where nothing is owed each receiving window is as at first, but for what is kept.
-pub run_gives_back : (known : Known) (run : List Seen) → AllMayCome known.setup.passing run → AreRight known known.setup.passing run → OwesNothing (sight_of run) (state_behind known.setup.passing run) → GivesBack known (tape_of (moves_of run))
+pub run_gives_back : (known : Known) (run : List Seen) → AllMayCome known.setup.more_room known.setup.passing run → AreRight known known.setup.passing run → OwesNothing (sight_of run) (state_behind known.setup.more_room known.setup.passing run) → GivesBack known (tape_of (moves_of run))
 run_gives_back known run may right none =
-    gives_back_at_rest known (moves_of run) (all_allowed known known.setup.passing run may right)
-    (paid_by known (tape_of (moves_of run)) (state_of known.setup.passing (moves_of run)) (sight_of run) (last_right known known.setup.passing run right)
-    (subst (OwesNothing (sight_of run)) (state_same known known.setup.passing run may right) none))
+    gives_back_at_rest known (moves_of run) (all_allowed known known.setup.more_room known.setup.passing run may right)
+    (paid_by known (tape_of (moves_of run)) (state_of known.setup.more_room known.setup.passing (moves_of run)) (sight_of run) (last_right known known.setup.passing run right)
+    (subst (OwesNothing (sight_of run)) (state_same known known.setup.more_room known.setup.passing run may right) none))
 
 -- Where octets are owed they go back.
-pub run_goes_back : (known : Known) (run : List Seen) → AllMayCome known.setup.passing run → AreRight known known.setup.passing run → OwesSome (sight_of run) (state_behind known.setup.passing run) → GoesBack known.setup.passing (tape_of (moves_of run))
+pub run_goes_back : (known : Known) (run : List Seen) → AllMayCome known.setup.more_room known.setup.passing run → AreRight known known.setup.passing run → OwesSome (sight_of run) (state_behind known.setup.more_room known.setup.passing run) → GoesBack (own_window known.setup) known.setup.passing (tape_of (moves_of run))
 run_goes_back known run may right owes = by some.settled some.some
   where
     passing : Passing
     passing = known.setup.passing
 
+    more : ℕ
+    more = known.setup.more_room
+
     t : List Entry
     t = tape_of (moves_of run)
 
-    some : OwesSome (sight_of run) (state_of passing (moves_of run))
-    some = subst (OwesSome (sight_of run)) (state_same known passing run may right) owes
+    some : OwesSome (sight_of run) (state_of more passing (moves_of run))
+    some = subst (OwesSome (sight_of run)) (state_same known more passing run may right) owes
 
-    all : Receiving passing t (state_of passing (moves_of run))
-    all = receiving passing (moves_of run) (all_allowed known passing run may right)
+    all : Receiving more passing t (state_of more passing (moves_of run))
+    all = receiving more passing (moves_of run) (all_allowed known more passing run may right)
 
     read : IsRightOf known t (sight_of run)
     read = last_right known known.setup.passing run right
 
-    by : (state_of passing (moves_of run)).count ≡ 0
-        → (0 < (state_of passing (moves_of run)).debt) ⊎ ((stream : ℕ) × ((sight_of run).active stream ≡ true) × ((sight_of run).ended stream ≡ false) × (0 < ((state_of passing (moves_of run)).row stream).debt)) → GoesBack passing t
-    by none (inl shared) = shared_goes_back passing t (state_of passing (moves_of run)) all none shared
+    by : (state_of more passing (moves_of run)).count ≡ 0
+        → (0 < (state_of more passing (moves_of run)).debt) ⊎ ((stream : ℕ) × ((sight_of run).active stream ≡ true) × ((sight_of run).ended stream ≡ false) × (0 < ((state_of more passing (moves_of run)).row stream).debt)) → GoesBack (own_window known.setup) passing t
+    by none (inl shared) = shared_goes_back more passing t (state_of more passing (moves_of run)) all none shared
     by none (inr own) =
         let on : is_active own.0 t ≡ true = sym (read.active own.0) ∙ own.1 in
-        own_goes_back passing t (state_of passing (moves_of run)) own.0 all none on (sym (read.ended own.0 on) ∙ own.2) own.3
+        own_goes_back more passing t (state_of more passing (moves_of run)) own.0 all none on (sym (read.ended own.0 on) ∙ own.2) own.3
 
 -- ---- before each thing that comes in
 
 -- what is given back, and no more
-keeps : (known : Known) (run : List Seen) → AllMayCome known.setup.passing run → AreRight known known.setup.passing run → OwesNothing (sight_of run) (state_behind known.setup.passing run) → KeepRooms known (tape_of (moves_of run))
-keeps known run may right none = record { gives_back = run_gives_back known run may right none; no_more = gives_no_more known.setup.passing (moves_of run) (all_allowed known known.setup.passing run may right); holds_back = holds_back known.setup.passing (moves_of run) (all_allowed known known.setup.passing run may right) }
+keeps : (known : Known) (run : List Seen) → AllMayCome known.setup.more_room known.setup.passing run → AreRight known known.setup.passing run → OwesNothing (sight_of run) (state_behind known.setup.more_room known.setup.passing run) → KeepRooms known (tape_of (moves_of run))
+keeps known run may right none = record { gives_back = run_gives_back known run may right none; no_more = gives_no_more known.setup.more_room known.setup.passing (moves_of run) (all_allowed known known.setup.more_room known.setup.passing run may right); holds_back = holds_back known.setup.more_room known.setup.passing (moves_of run) (all_allowed known known.setup.more_room known.setup.passing run may right) }
 
-module _ (known : Known) (run : List Seen) (at : OwesNothing (sight_of run) (state_behind known.setup.passing run) → KeepRooms known (tape_of (moves_of run))) (before : HoldsInTurn (KeepRooms known) (tape_of (moves_of run))) where
+module _ (known : Known) (run : List Seen) (at : OwesNothing (sight_of run) (state_behind known.setup.more_room known.setup.passing run) → KeepRooms known (tape_of (moves_of run))) (before : HoldsInTurn (KeepRooms known) (tape_of (moves_of run))) where
   -- one move more
-  one_more : (behind : Sight) (m : Move) → MayCome known.setup.passing (gates_of run) (sight_of run) behind (state_behind known.setup.passing run) m → HoldsInTurn (KeepRooms known) (entries_of m ++ tape_of (moves_of run))
+  one_more : (behind : Sight) (m : Move) → MayCome known.setup.passing (gates_of run) (sight_of run) behind (state_behind known.setup.more_room known.setup.passing run) m → HoldsInTurn (KeepRooms known) (entries_of m ++ tape_of (moves_of run))
   one_more behind (Takes noted opens over) may = (at may.nothing, before)
   one_more behind (Breaks breach) may = (at may, before)
   one_more behind (Hears event) may = (at may.0, before)
@@ -230,6 +233,6 @@ module _ (known : Known) (run : List Seen) (at : OwesNothing (sight_of run) (sta
   one_more behind (Acts act) may = before
 
 -- Something comes in only where nothing is owed: so each window is then as at first, but for what is kept.
-pub rooms_in_turn : (known : Known) (run : List Seen) → AllMayCome known.setup.passing run → AreRight known known.setup.passing run → HoldsInTurn (KeepRooms known) (tape_of (moves_of run))
+pub rooms_in_turn : (known : Known) (run : List Seen) → AllMayCome known.setup.more_room known.setup.passing run → AreRight known known.setup.passing run → HoldsInTurn (KeepRooms known) (tape_of (moves_of run))
 rooms_in_turn known [] may right = tt
 rooms_in_turn known (x ∷ run) may right = one_more known run (keeps known run may.0 right.0) (rooms_in_turn known run may.0 right.0) x.sight x.move may.1

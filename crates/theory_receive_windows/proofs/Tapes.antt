@@ -10,7 +10,7 @@ use Rattle.model.specs.Tapes.{Noted, Entry, came, sent, sent_up}
 use Rattle.model.specs.Tapes.Entry.{Came, Breached, Happened, Sent, Did}
 use Rattle.model.specs.Decoding.{Partial, begun, joined, completed}
 use Rattle.model.specs.Openings.{Opened}
-use Rattle.model.specs.Lifetimes.{opens_by, opened, is_over, is_active, active}
+use Rattle.model.specs.Lifetimes.{opens_by, opened, is_over, is_active, active, is_drained}
 use Rattle.model.specs.WindowsOnTape.{is_on, is_any, data_length, data_octets}
 use Rattle.model.specs.WindowClause.{waiting}
 use Rattle.model.proofs.OpenedLaws.{opens_new, none_zero}
@@ -23,9 +23,9 @@ use Rattle.theory_receive_windows.proofs.Sums.{is_among, AreApart}
 -- no stream was opened twice
 pub opened_apart : (t : List Entry) → AreApart (opened t)
 opened_apart [] = tt
-opened_apart (Came noted ∷ t) = by (opens_by (opened t) (completed (came t) noted.frame) noted.note) refl (opened_apart t)
+opened_apart (Came noted ∷ t) = by (opens_by (is_drained t) (opened t) (completed (came t) noted.frame) noted.note) refl (opened_apart t)
   where
-    by : (b : Bool) → opens_by (opened t) (completed (came t) noted.frame) noted.note ≡ b → AreApart (opened t) → AreApart (if b then noted.frame.id ∷ opened t else opened t)
+    by : (b : Bool) → opens_by (is_drained t) (opened t) (completed (came t) noted.frame) noted.note ≡ b → AreApart (opened t) → AreApart (if b then noted.frame.id ∷ opened t else opened t)
     by true e apart = (opens_new t noted e, apart)
     by false e apart = apart
 opened_apart (Breached breach ∷ t) = opened_apart t

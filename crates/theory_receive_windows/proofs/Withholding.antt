@@ -6,7 +6,7 @@ use Rattle.std.proofs.lemmas.Bool.{cases_Bool, and_right, ne_eqb}
 use Rattle.std.proofs.lemmas.Bool.Decides.{eqb_tells}
 use Rattle.model.specs.Frames.{window_update_kind}
 use Rattle.model.specs.Logs.{Event}
-use Rattle.model.specs.Logs.Event.{Client, ClientEnd, ClientTook, Up, UpEnd, UpFailed, UpTook}
+use Rattle.model.specs.Logs.Event.{Client, ClientEnd, ClientTook, Up, UpEnd, UpFailed, UpTook, Drain}
 use Rattle.model.specs.Logs.Act.{Open, ToUp, Close, CloseClient}
 use Rattle.model.specs.Setup.{Passing}
 use Rattle.model.specs.Setup.Passing.{Whole, Streaming}
@@ -85,6 +85,7 @@ taken_more k t (Up j piece) = omega arith
 taken_more k t (UpEnd j) = omega arith
 taken_more k t (UpFailed j) = omega arith
 taken_more k t (UpTook j count) = more_taken (k == j) (taken k t) count
+taken_more k t Drain = omega arith
 
 module _ (t : List Entry) (id : ℕ) (settled : Bool) (h : IsHeldBack Streaming t settled id) where
   -- where the effect of the last frame is over
@@ -177,6 +178,7 @@ event_begins s (Up j piece) = refl
 event_begins s (UpEnd j) = refl
 event_begins s (UpFailed j) = refl
 event_begins s (UpTook j count) = refl
+event_begins s Drain = refl
 
 effect_ends : (b : Bool) (s : State) → (settle_by b s).settled ≡ true
 effect_ends true s = refl
@@ -215,20 +217,20 @@ begins_elsewhere t s id live last on_live off = elim (eqb_tells (last_stream t) 
 ]
 
 -- a stream that is over behind any move
-over_held : (passing : Passing) (t : List Entry) (s : State) (m : Move) (id : ℕ) → 0 < id → Receiving passing t s → is_active id (entries_of m ++ t) ≡ false → IsHeldBack passing t s.settled id → Holds passing t s m → IsHeldBack passing (entries_of m ++ t) (after passing s m).settled id
-over_held passing t s (Takes noted opens over) id counted r off h may = came_held passing t noted s.settled id h
-over_held passing t s (Breaks breach) id counted r off h may = broken_held passing t breach s.settled id h
-over_held passing t s (Hears event) id counted r off h may = subst (λ b. IsHeldBack passing (Happened event ∷ t) b id) (sym (event_begins s event)) (heard_held passing t event s.settled id h)
-over_held passing t s Settles id counted r off h may = subst (λ b. IsHeldBack passing t b id) (sym (effect_ends (must_wait passing s) s)) (settled_held passing t s.settled id h)
-over_held passing t s (Gives noted) id counted r off h may =
+over_held : (more : ℕ) (passing : Passing) (t : List Entry) (s : State) (m : Move) (id : ℕ) → 0 < id → Receiving more passing t s → is_active id (entries_of m ++ t) ≡ false → IsHeldBack passing t s.settled id → Holds passing t s m → IsHeldBack passing (entries_of m ++ t) (after passing s m).settled id
+over_held more passing t s (Takes noted opens over) id counted r off h may = came_held passing t noted s.settled id h
+over_held more passing t s (Breaks breach) id counted r off h may = broken_held passing t breach s.settled id h
+over_held more passing t s (Hears event) id counted r off h may = subst (λ b. IsHeldBack passing (Happened event ∷ t) b id) (sym (event_begins s event)) (heard_held passing t event s.settled id h)
+over_held more passing t s Settles id counted r off h may = subst (λ b. IsHeldBack passing t b id) (sym (effect_ends (must_wait passing s) s)) (settled_held passing t s.settled id h)
+over_held more passing t s (Gives noted) id counted r off h may =
     subst (λ b. IsHeldBack passing (Sent noted ∷ t) b id) (sym (given_on (noted.frame.id == 0) s noted))
     (sent_held passing t noted s.settled id (ap (λ b. noted.frame.kind == window_update_kind && b) (gives_elsewhere t s noted id counted may off) ∙ and_right (noted.frame.kind == window_update_kind) false refl) h)
-over_held passing t s (Sends noted over) id counted r off h may = sent_held passing t noted s.settled id (ap (λ b. b && noted.frame.id == id) may.kind) h
-over_held passing t s (Uses k octets) id counted r off h may = used_held passing t k octets s.settled id (begins_elsewhere t s id r.keeping.live r.counting.last may.0.active off) may.0.begins may.0.in_effect h
-over_held passing t s (Acts (Open k route)) id counted r off h may = opened_held passing t k route s.settled id (begins_elsewhere t s id r.keeping.live r.counting.last may.active off) h
-over_held passing t s (Acts (ToUp k octets)) id counted r off h may = put_held passing t k octets s.settled id may.its may.in_effect h
-over_held passing t s (Acts (Close k)) id counted r off h may = closed_held passing t k s.settled id h
-over_held passing t s (Acts CloseClient) id counted r off h may = shut_held passing t s.settled id h
+over_held more passing t s (Sends noted over) id counted r off h may = sent_held passing t noted s.settled id (ap (λ b. b && noted.frame.id == id) may.kind) h
+over_held more passing t s (Uses k octets) id counted r off h may = used_held passing t k octets s.settled id (begins_elsewhere t s id r.keeping.live r.counting.last may.0.active off) may.0.begins may.0.in_effect h
+over_held more passing t s (Acts (Open k route)) id counted r off h may = opened_held passing t k route s.settled id (begins_elsewhere t s id r.keeping.live r.counting.last may.active off) h
+over_held more passing t s (Acts (ToUp k octets)) id counted r off h may = put_held passing t k octets s.settled id may.its may.in_effect h
+over_held more passing t s (Acts (Close k)) id counted r off h may = closed_held passing t k s.settled id h
+over_held more passing t s (Acts CloseClient) id counted r off h may = shut_held passing t s.settled id h
 
 -- nothing came
 nothing_held : (passing : Passing) (id : ℕ) → IsHeldBack passing [] false id
@@ -236,19 +238,19 @@ nothing_held Whole id = omega arith
 nothing_held Streaming id = λ n put le cond. omega arith
 
 -- It is so behind moves that are allowed.
-held_back : (passing : Passing) (moves : List Move) → AreAllowed passing moves → (id : ℕ) → 0 < id → IsHeldBack passing (tape_of moves) (state_of passing moves).settled id
-held_back passing [] all id counted = nothing_held passing id
-held_back passing (m ∷ ms) all id counted = elim (cases_Bool (is_active id (tape_of (m ∷ ms)))) [
+held_back : (more : ℕ) (passing : Passing) (moves : List Move) → AreAllowed more passing moves → (id : ℕ) → 0 < id → IsHeldBack passing (tape_of moves) (state_of more passing moves).settled id
+held_back more passing [] all id counted = nothing_held passing id
+held_back more passing (m ∷ ms) all id counted = elim (cases_Bool (is_active id (tape_of (m ∷ ms)))) [
   | inl on ↦ (
-      let r = receiving passing (m ∷ ms) all in
-      held_active passing (tape_of (m ∷ ms)) (state_of passing (m ∷ ms)) id r.counting (r.keeping.streams id on)
+      let r = receiving more passing (m ∷ ms) all in
+      held_active passing (tape_of (m ∷ ms)) (state_of more passing (m ∷ ms)) id r.counting (r.keeping.streams id on)
       )
-  | inr off ↦ over_held passing (tape_of ms) (state_of passing ms) m id counted (receiving passing ms all.0) off (held_back passing ms all.0 id counted) all.1
+  | inr off ↦ over_held more passing (tape_of ms) (state_of more passing ms) m id counted (receiving more passing ms all.0) off (held_back more passing ms all.0 id counted) all.1
 ]
 
 -- a window with as much less, or more less
-at_least_less : (given came rest : ℕ) → given + rest ≤ came → sending_window first_window given came ≤ℤ (pos first_window -ℤ pos rest)
-at_least_less given came rest e = omega (arith, ints, e)
+at_least_less : (own given came rest : ℕ) → given + rest ≤ came → sending_window own given came ≤ℤ (pos own -ℤ pos rest)
+at_least_less own given came rest e = omega (arith, ints, e)
 
 -- what is kept for the stream is no more
 kept_less : (passing : Passing) (t : List Entry) (settled : Bool) (id : ℕ) → IsHeldBack passing t settled id → increments id (sent t) + kept passing id t ≤ data_octets (is_on id) (came t)
@@ -260,7 +262,7 @@ kept_less Streaming t settled id h =
     omega (arith, old, same)
 
 -- What is kept for a stream isn't given back on it.
-pub holds_back : (passing : Passing) (moves : List Move) → AreAllowed passing moves → HoldsBack passing (tape_of moves)
-holds_back passing moves all = λ stream counted.
-    at_least_less (increments stream (sent (tape_of moves))) (data_octets (is_on stream) (came (tape_of moves))) (kept passing stream (tape_of moves))
-    (kept_less passing (tape_of moves) (state_of passing moves).settled stream (held_back passing moves all stream counted))
+pub holds_back : (more : ℕ) (passing : Passing) (moves : List Move) → AreAllowed more passing moves → HoldsBack (first_window + more) passing (tape_of moves)
+holds_back more passing moves all = λ stream counted.
+    at_least_less (first_window + more) (increments stream (sent (tape_of moves))) (data_octets (is_on stream) (came (tape_of moves))) (kept passing stream (tape_of moves))
+    (kept_less passing (tape_of moves) (state_of more passing moves).settled stream (held_back more passing moves all stream counted))

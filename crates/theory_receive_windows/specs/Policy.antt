@@ -2,19 +2,18 @@
 use Rattle.std.specs.Prelude.{◌≡◌, ℕ, ◌+◌, ◌<◌, Bool, true, false, not, ◌&&◌, ◌==◌, nat_le, if◌then◌else◌, List, [], ◌∷◌, length, pos}
 use Rattle.model.specs.Frames.{Frame, window_update_kind}
 use Rattle.model.specs.Logs.{Event, Act}
-use Rattle.model.specs.Logs.Event.{Client, ClientEnd, ClientTook, Up, UpEnd, UpFailed, UpTook}
+use Rattle.model.specs.Logs.Event.{Client, ClientEnd, ClientTook, Up, UpEnd, UpFailed, UpTook, Drain}
 use Rattle.model.specs.Logs.Act.{Open, ToUp}
-use Rattle.model.specs.Setup.{Passing}
+use Rattle.model.specs.Setup.{Passing, own_window}
 use Rattle.model.specs.Setup.Passing.{Streaming}
 use Rattle.model.specs.Tapes.{Noted, Entry, came, is_closed}
 use Rattle.model.specs.Admission.{untaken, is_open}
 use Rattle.model.specs.Tapes.Entry.{Came, Sent}
 use Rattle.model.specs.Decoding.{completed}
-use Rattle.model.specs.Limits.{first_window}
 use Rattle.model.specs.Openings as openings
 use Rattle.model.specs.Openings.{exchanges, last_stream, begins_another}
-use Rattle.model.specs.Lifetimes.{opens_by, opened, active, is_active, is_ended_by_client}
-use Rattle.model.specs.WindowsOnTape.{is_on, data_octets, increment, room_on}
+use Rattle.model.specs.Lifetimes.{opens_by, opened, active, is_active, is_ended_by_client, is_drained}
+use Rattle.model.specs.WindowsOnTape.{is_on, data_octets, increment, back_on}
 use Rattle.model.specs.Known.{Known}
 use Rattle.model.specs.WindowClause.{GivesBack, GivesNoMore, HoldsBack}
 use Rattle.theory_receive_windows.specs.State.{State, is_live, Move, tape_of, state_of}
@@ -66,6 +65,7 @@ may_come gates s (Up k piece) = gates.is_up k && nat_le (length piece) (room_in 
 may_come gates s (UpEnd k) = gates.is_up k
 may_come gates s (UpFailed k) = gates.is_up k
 may_come gates s (UpTook k count) = gates.is_up k && nat_le (s.took k + count) (s.out k)
+may_come gates s Drain = true
 
 -- the event may come: once the client is closed none may
 abbrev pub admits : Gates → State → Event → Bool
@@ -73,9 +73,9 @@ admits gates s event = not gates.closed && may_come gates s event
 
 -- ---- what other concerns know
 
--- The stream's receiving window is as at first.
+-- Nothing came on the stream, or as much was given back: its receiving window is as at first.
 abbrev pub IsNew : List Entry → ℕ → Type 0
-IsNew t stream = room_on stream t ≡ pos first_window
+IsNew t stream = back_on stream t ≡ pos 0
 
 -- The frame opens its stream, which is active then; or it doesn't, and the stream is active where it was, unless it is over.
 abbrev pub IsOpened : List Entry → Noted → Bool → Bool → Type 0
@@ -86,7 +86,7 @@ IsOpened t noted false over = is_active noted.frame.id (Came noted ∷ t) ≡ (i
 -- the frame before is over.
 pub record MayTake (t : List Entry) (s : State) (noted : Noted) (news over : Bool) : Type 0 where
   pub settled : s.count ≡ 0
-  pub opens : opens_by (opened t) (completed (came t) noted.frame) noted.note ≡ news
+  pub opens : opens_by (is_drained t) (opened t) (completed (came t) noted.frame) noted.note ≡ news
   pub opened : IsOpened t noted news over
   pub was : over ≡ true → is_active noted.frame.id t ≡ true
 
@@ -159,9 +159,9 @@ Holds passing t s (Uses k octets) = MayUse passing (gates_on t) s k octets × Is
 Holds passing t s (Acts act) = MayDo passing (gates_on t) s act
 
 -- Each move is allowed where it stands; the newest stands first.
-abbrev pub AreAllowed : Passing → List Move → Type 0
-AreAllowed passing [] = Unit {0}
-AreAllowed passing (m ∷ ms) = AreAllowed passing ms × Holds passing (tape_of ms) (state_of passing ms) m
+abbrev pub AreAllowed : ℕ → Passing → List Move → Type 0
+AreAllowed more passing [] = Unit {0}
+AreAllowed more passing (m ∷ ms) = AreAllowed more passing ms × Holds passing (tape_of ms) (state_of more passing ms) m
 
 -- Nothing is owed: the last frame's effect is over, and all is given back that goes back.
 pub record IsPaid (t : List Entry) (s : State) : Type 0 where
@@ -172,5 +172,5 @@ pub record IsPaid (t : List Entry) (s : State) : Type 0 where
 -- What was to be shown: each window is as at first, but for what is kept, no more was given back than came, and what is kept wasn't.
 pub record KeepRooms (known : Known) (t : List Entry) : Type 0 where
   pub gives_back : GivesBack known t
-  pub no_more : GivesNoMore t
-  pub holds_back : HoldsBack known.setup.passing t
+  pub no_more : GivesNoMore (own_window known.setup) t
+  pub holds_back : HoldsBack (own_window known.setup) known.setup.passing t

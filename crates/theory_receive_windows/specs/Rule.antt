@@ -89,18 +89,18 @@ abbrev pub state_with : Gates → Kept → State
 state_with gates kept = with_told gates.live gates.last kept
 
 -- what is kept behind it: each move changes the state of what is kept and what is told before it
-abbrev pub kept_behind : Passing → List Seen → Kept
-kept_behind passing [] = kept_of start
-kept_behind passing (x ∷ run) = kept_of (after passing (state_with (gates_of run) (kept_behind passing run)) x.move)
+abbrev pub kept_behind : ℕ → Passing → List Seen → Kept
+kept_behind more passing [] = kept_of (start more)
+kept_behind more passing (x ∷ run) = kept_of (after passing (state_with (gates_of run) (kept_behind more passing run)) x.move)
 
 -- and so the state behind it
-abbrev pub state_behind : Passing → List Seen → State
-state_behind passing run = state_with (gates_of run) (kept_behind passing run)
+abbrev pub state_behind : ℕ → Passing → List Seen → State
+state_behind more passing run = state_with (gates_of run) (kept_behind more passing run)
 
 -- Each move might come where it came.
-abbrev pub AllMayCome : Passing → List Seen → Type 0
-AllMayCome passing [] = Unit {0}
-AllMayCome passing (x ∷ run) = AllMayCome passing run × MayCome passing (gates_of run) (sight_of run) x.sight (state_behind passing run) x.move
+abbrev pub AllMayCome : ℕ → Passing → List Seen → Type 0
+AllMayCome more passing [] = Unit {0}
+AllMayCome more passing (x ∷ run) = AllMayCome more passing run × MayCome passing (gates_of run) (sight_of run) x.sight (state_behind more passing run) x.move
 
 -- No DATA came on a stream that a kept connection is given to.
 abbrev pub IsTold : Passing → List Entry → Move → Type 0

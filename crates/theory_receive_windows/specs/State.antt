@@ -38,15 +38,15 @@ pub record State : Type 0 where
   pub out : ℕ → ℕ
   pub took : ℕ → ℕ
 
--- nothing came
-abbrev pub start : State
-start = record {
+-- Nothing came. By so many octets windows are larger at first than 65,535: the connection's is to be made as large (RFC 9113, section 6.9.2).
+abbrev pub start : ℕ → State
+start more = record {
   live = [];
   row = λ id. record { k = 0; queue = []; debt = 0 };
   stream = 0;
   count = 0;
   settled = false;
-  debt = 0;
+  debt = more;
   out = λ k. 0;
   took = λ k. 0;
 }
@@ -220,9 +220,9 @@ after passing s (Uses k octets) = with_use s k octets
 after passing s (Acts act) = with_act s act
 
 -- the state behind all moves
-abbrev pub state_of : Passing → List Move → State
-state_of passing [] = start
-state_of passing (m ∷ ms) = after passing (state_of passing ms) m
+abbrev pub state_of : ℕ → Passing → List Move → State
+state_of more passing [] = start more
+state_of more passing (m ∷ ms) = after passing (state_of more passing ms) m
 
 -- ---- what is kept, beside what is told of streams
 

@@ -19,7 +19,7 @@
 #![tactic(auto)]
 
 ghost use Rattle.std.specs.Prelude.{◌≡◌, ◌≢◌, ◌+◌, ℕ, true, List, length, sum_by, pos, ◌-ℤ◌};
-ghost use Rattle.model.specs.Setup.{Passing};
+ghost use Rattle.model.specs.Setup.{Passing, own_window};
 ghost use Rattle.model.specs.Logs.{Event};
 ghost use Rattle.model.specs.Tapes.{Entry, sent};
 ghost use Rattle.model.specs.Openings.{Opened};
@@ -45,10 +45,10 @@ ghost use Rattle.theory_receive_windows.specs.Marking.{marks_on};
 /// first but for what is kept; no frame that gives octets back makes a window larger than at first;
 /// and what is kept for a stream isn't given back on it, though it be over.
 pub fn windows_go_back()
-    ensures at_rest { (known : Known) (moves : List Move) → AreAllowed known.setup.passing moves
-        → IsPaid (tape_of moves) (state_of known.setup.passing moves) → GivesBack known (tape_of moves) }
-    ensures no_more { (passing : Passing) (moves : List Move) → AreAllowed passing moves → GivesNoMore (tape_of moves) }
-    ensures holds_back { (passing : Passing) (moves : List Move) → AreAllowed passing moves → HoldsBack passing (tape_of moves) }
+    ensures at_rest { (known : Known) (moves : List Move) → AreAllowed known.setup.more_room known.setup.passing moves
+        → IsPaid (tape_of moves) (state_of known.setup.more_room known.setup.passing moves) → GivesBack known (tape_of moves) }
+    ensures no_more { (more : ℕ) (passing : Passing) (moves : List Move) → AreAllowed more passing moves → GivesNoMore (first_window + more) (tape_of moves) }
+    ensures holds_back { (more : ℕ) (passing : Passing) (moves : List Move) → AreAllowed more passing moves → HoldsBack (first_window + more) passing (tape_of moves) }
 {}
 
 /// Moves that are allowed by the states alone, where what is read of other concerns is right, are
@@ -56,13 +56,13 @@ pub fn windows_go_back()
 /// what is kept; where something is owed, octets go back (`some`). Something comes in only where
 /// nothing is: so it holds before each thing that comes in.
 pub fn states_give_back()
-    ensures allowed { (known : Known) (passing : Passing) (run : List Seen) → AllMayCome passing run → AreRight known passing run
-        → AreAllowed passing (moves_of run) }
-    ensures at_rest { (known : Known) (run : List Seen) → AllMayCome known.setup.passing run → AreRight known known.setup.passing run
-        → OwesNothing (sight_of run) (state_behind known.setup.passing run) → GivesBack known (tape_of (moves_of run)) }
-    ensures some { (known : Known) (run : List Seen) → AllMayCome known.setup.passing run → AreRight known known.setup.passing run
-        → OwesSome (sight_of run) (state_behind known.setup.passing run) → GoesBack known.setup.passing (tape_of (moves_of run)) }
-    ensures in_turn { (known : Known) (run : List Seen) → AllMayCome known.setup.passing run → AreRight known known.setup.passing run
+    ensures allowed { (known : Known) (more : ℕ) (passing : Passing) (run : List Seen) → AllMayCome more passing run → AreRight known passing run
+        → AreAllowed more passing (moves_of run) }
+    ensures at_rest { (known : Known) (run : List Seen) → AllMayCome known.setup.more_room known.setup.passing run → AreRight known known.setup.passing run
+        → OwesNothing (sight_of run) (state_behind known.setup.more_room known.setup.passing run) → GivesBack known (tape_of (moves_of run)) }
+    ensures some { (known : Known) (run : List Seen) → AllMayCome known.setup.more_room known.setup.passing run → AreRight known known.setup.passing run
+        → OwesSome (sight_of run) (state_behind known.setup.more_room known.setup.passing run) → GoesBack (own_window known.setup) known.setup.passing (tape_of (moves_of run)) }
+    ensures in_turn { (known : Known) (run : List Seen) → AllMayCome known.setup.more_room known.setup.passing run → AreRight known known.setup.passing run
         → HoldsInTurn (KeepRooms known) (tape_of (moves_of run)) }
 {}
 
@@ -73,36 +73,36 @@ pub fn marks_wait()
 
 /// The rooms that the client has: as at first, without what waits, what came last, and what is owed.
 pub fn rooms_are_told()
-    ensures shared { (passing : Passing) (moves : List Move) → AreAllowed passing moves
-        → room_on_connection (tape_of moves) ≡ pos first_window -ℤ pos (sum_by (held (state_of passing moves)) (state_of passing moves).live
-        + (state_of passing moves).count + (state_of passing moves).debt) }
-    ensures own { (passing : Passing) (moves : List Move) (id : ℕ) → AreAllowed passing moves → is_active id (tape_of moves) ≡ true
-        → room_on id (tape_of moves) ≡ pos first_window -ℤ pos (held (state_of passing moves) id + fresh_of (state_of passing moves) id
-        + ((state_of passing moves).row id).debt) }
+    ensures shared { (more : ℕ) (passing : Passing) (moves : List Move) → AreAllowed more passing moves
+        → room_on_connection (tape_of moves) ≡ pos (first_window + more) -ℤ pos (sum_by (held (state_of more passing moves)) (state_of more passing moves).live
+        + (state_of more passing moves).count + (state_of more passing moves).debt) }
+    ensures own { (more : ℕ) (passing : Passing) (moves : List Move) (id : ℕ) → AreAllowed more passing moves → is_active id (tape_of moves) ≡ true
+        → room_on (first_window + more) id (tape_of moves) ≡ pos (first_window + more) -ℤ pos (held (state_of more passing moves) id + fresh_of (state_of more passing moves) id
+        + ((state_of more passing moves).row id).debt) }
 {}
 
 /// As an upstream's side takes octets, those of its own stream go back, where no other active
 /// stream has its connection.
 pub fn one_stream_returns()
-    ensures { (passing : Passing) (moves : List Move) (k count id : ℕ) → AreAllowed passing moves → is_active id (tape_of moves) ≡ true
-        → ((other : ℕ) → other ≢ id → is_active other (tape_of moves) ≡ true → ((state_of passing moves).row other).k ≢ k)
-        → (with_taken (state_of passing moves) k count).debt ≡ (state_of passing moves).debt
-        + released (add k count (state_of passing moves).took ((state_of passing moves).row id).k) ((state_of passing moves).row id).queue }
+    ensures { (more : ℕ) (passing : Passing) (moves : List Move) (k count id : ℕ) → AreAllowed more passing moves → is_active id (tape_of moves) ≡ true
+        → ((other : ℕ) → other ≢ id → is_active other (tape_of moves) ≡ true → ((state_of more passing moves).row other).k ≢ k)
+        → (with_taken (state_of more passing moves) k count).debt ≡ (state_of more passing moves).debt
+        + released (add k count (state_of more passing moves).took ((state_of more passing moves).row id).k) ((state_of more passing moves).row id).queue }
 {}
 
 /// Which event may come by the state is which may by the tape, and so is the room of an upstream;
 /// where responses are passed on as they come, with what is held of them.
 pub fn admission_is_told()
-    ensures admits { (passing : Passing) (moves : List Move) (gates : Gates) (event : Event) → AreAllowed passing moves → AreGates (tape_of moves) gates
-        → admits gates (state_of passing moves) event ≡ is_admitted (tape_of moves) event }
-    ensures room { (passing : Passing) (moves : List Move) (gates : Gates) (k : ℕ) → AreAllowed passing moves → AreGates (tape_of moves) gates
+    ensures admits { (more : ℕ) (passing : Passing) (moves : List Move) (gates : Gates) (event : Event) → AreAllowed more passing moves → AreGates (tape_of moves) gates
+        → admits gates (state_of more passing moves) event ≡ is_admitted (tape_of moves) event }
+    ensures room { (more : ℕ) (passing : Passing) (moves : List Move) (gates : Gates) (k : ℕ) → AreAllowed more passing moves → AreGates (tape_of moves) gates
         → room_in gates k ≡ room k (tape_of moves) }
-    ensures beside { (known : Known) (passing : Passing) (moves : List Move) (gates : Gates) (held : ℕ → ℕ) (event : Event) → AreAllowed passing moves
-        → AreGates (tape_of moves) gates → AreHeld known (tape_of moves) held event → admits_beside gates (state_of passing moves) held event ≡ true
+    ensures beside { (known : Known) (more : ℕ) (passing : Passing) (moves : List Move) (gates : Gates) (held : ℕ → ℕ) (event : Event) → AreAllowed more passing moves
+        → AreGates (tape_of moves) gates → AreHeld known (tape_of moves) held event → admits_beside gates (state_of more passing moves) held event ≡ true
         → IsAdmitted known (tape_of moves) event }
-    ensures only { (known : Known) (passing : Passing) (moves : List Move) (gates : Gates) (held : ℕ → ℕ) (event : Event) → AreAllowed passing moves
+    ensures only { (known : Known) (more : ℕ) (passing : Passing) (moves : List Move) (gates : Gates) (held : ℕ → ℕ) (event : Event) → AreAllowed more passing moves
         → AreGates (tape_of moves) gates → AreHeld known (tape_of moves) held event → IsAdmitted known (tape_of moves) event
-        → admits_beside gates (state_of passing moves) held event ≡ true }
+        → admits_beside gates (state_of more passing moves) held event ≡ true }
 {}
 
 /// Where responses are passed on as they come, what takes room is the body in the outbox of the

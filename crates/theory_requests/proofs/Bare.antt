@@ -1,8 +1,8 @@
 -- No DATA came on a stream before its request's head.
-use Rattle.std.proofs.Common.{◌≡◌, ℕ, Bool, true, false, ◌==◌, ◌&&◌, ◌||◌, List, [], ◌∷◌, ◌++◌, length, refl, sym, ap, ◌∙◌, subst, inl, inr, arith, if◌then◌else◌}
+use Rattle.std.proofs.Common.{◌≡◌, ℕ, Bool, true, false, ◌==◌, ◌&&◌, ◌||◌, List, [], ◌∷◌, ◌++◌, length, refl, sym, ap, ◌∙◌, inl, inr, arith, if◌then◌else◌}
 use Rattle.std.specs.Prelude.{Option, None}
 use Rattle.std.specs.List.{list_any}
-use Rattle.std.proofs.lemmas.Bool.{cases_Bool, and_right, or_parts, eq-eqb}
+use Rattle.std.proofs.lemmas.Bool.{cases_Bool, and_right, or_parts}
 use Rattle.std.proofs.lemmas.Bool.Decides.{eqb_tells}
 use Rattle.std.proofs.lemmas.List.Folds.{list_any-append}
 use Rattle.model.specs.Messages.{Field, Item, ends_with}
@@ -12,6 +12,7 @@ use Rattle.model.specs.Tapes.{Noted, Entry, came}
 use Rattle.model.specs.Tapes.Entry.{Came, Breached, Happened, Sent, Did}
 use Rattle.model.specs.Decoding.{Partial, completed}
 use Rattle.model.specs.Streams.{frame_items, items_of}
+use Rattle.model.specs.Setup.{own_window}
 use Rattle.model.specs.Known.{Known}
 use Rattle.model.specs.ErrorTable.{fault_with}
 use Rattle.model.specs.Courses.{course, carried, items, cause_of, interrupts}
@@ -47,24 +48,24 @@ quiet_before false false old new going quiet =
 none_came : (known : Known) (id : ℕ) (t : List Entry) → (course known id t).over ≡ false → list_any is_content (items known id t) ≡ false → data_octets (is_on id) (came t) ≡ 0
 none_came known id [] going quiet = refl
 none_came known id (Came noted ∷ t) going quiet =
-    let was = quiet_before (course known id t).over (interrupts id (Came noted) (fault_with (carried (course known id t)) t (Came noted)) (cause_of known id t (Came noted))) (items known id t) (items_of id t (Came noted)) going quiet in
+    let was = quiet_before (course known id t).over (interrupts id (Came noted) (fault_with (own_window known.setup) (carried (course known id t)) t (Came noted)) (cause_of known id t (Came noted))) (items known id t) (items_of id t (Came noted)) going quiet in
     let more = none_came known id t was.0 was.1 in
     let here = no_octets (came t) noted id was.2 in
     omega (arith, more, here)
 none_came known id (Breached breach ∷ t) going quiet =
-    let was = quiet_before (course known id t).over (interrupts id (Breached breach) (fault_with (carried (course known id t)) t (Breached breach)) (cause_of known id t (Breached breach))) (items known id t) [] going quiet in none_came known id t was.0 was.1
+    let was = quiet_before (course known id t).over (interrupts id (Breached breach) (fault_with (own_window known.setup) (carried (course known id t)) t (Breached breach)) (cause_of known id t (Breached breach))) (items known id t) [] going quiet in none_came known id t was.0 was.1
 none_came known id (Happened event ∷ t) going quiet =
-    let was = quiet_before (course known id t).over (interrupts id (Happened event) (fault_with (carried (course known id t)) t (Happened event)) (cause_of known id t (Happened event))) (items known id t) [] going quiet in none_came known id t was.0 was.1
+    let was = quiet_before (course known id t).over (interrupts id (Happened event) (fault_with (own_window known.setup) (carried (course known id t)) t (Happened event)) (cause_of known id t (Happened event))) (items known id t) [] going quiet in none_came known id t was.0 was.1
 none_came known id (Sent noted ∷ t) going quiet =
-    let was = quiet_before (course known id t).over (interrupts id (Sent noted) (fault_with (carried (course known id t)) t (Sent noted)) (cause_of known id t (Sent noted))) (items known id t) [] going quiet in none_came known id t was.0 was.1
+    let was = quiet_before (course known id t).over (interrupts id (Sent noted) (fault_with (own_window known.setup) (carried (course known id t)) t (Sent noted)) (cause_of known id t (Sent noted))) (items known id t) [] going quiet in none_came known id t was.0 was.1
 none_came known id (Did act ∷ t) going quiet =
-    let was = quiet_before (course known id t).over (interrupts id (Did act) (fault_with (carried (course known id t)) t (Did act)) (cause_of known id t (Did act))) (items known id t) [] going quiet in none_came known id t was.0 was.1
+    let was = quiet_before (course known id t).over (interrupts id (Did act) (fault_with (own_window known.setup) (carried (course known id t)) t (Did act)) (cause_of known id t (Did act))) (items known id t) [] going quiet in none_came known id t was.0 was.1
 
 -- So none came where the head does.
 pub none_with_head : (known : Known) (t : List Entry) (noted : Noted) (head : List Field) (ended : Bool) → items known noted.frame.id t ≡ [] → items known noted.frame.id (Came noted ∷ t) ≡ Block head ended ∷ [] → data_octets (is_on noted.frame.id) (came (Came noted ∷ t)) ≡ 0
 none_with_head known t noted head ended empty now =
     let before = none_came known id t going (ap (list_any is_content) empty) in
-    let here = no_octets (came t) noted id (brought ((course known id t).over || interrupts id (Came noted) (fault_with (carried (course known id t)) t (Came noted)) (cause_of known id t (Came noted))) (items known id t) (items_of id t (Came noted)) empty now) in
+    let here = no_octets (came t) noted id (brought ((course known id t).over || interrupts id (Came noted) (fault_with (own_window known.setup) (carried (course known id t)) t (Came noted)) (cause_of known id t (Came noted))) (items known id t) (items_of id t (Came noted)) empty now) in
     omega (arith, before, here)
   where
     id : ℕ

@@ -7,7 +7,7 @@ use Rattle.model.specs.Messages.{Field, Item}
 use Rattle.model.specs.Messages.Item.{Block, Content}
 use Rattle.model.specs.Frames.{data_kind, ends_stream, content}
 use Rattle.model.specs.Malformed.{Carried, carried_by, is_malformed_block, is_malformed_content}
-use Rattle.model.specs.Setup.{Setup}
+use Rattle.model.specs.Setup.{Setup, own_window}
 use Rattle.model.specs.Tapes.{Note, Noted, Entry, came}
 use Rattle.model.specs.Tapes.Note.{NoBlock, Fields, Undecodable, Unread}
 use Rattle.model.specs.Tapes.Entry.{Came}
@@ -81,7 +81,7 @@ none_before (Some c) new e = absurd (cc)
 
 module _ (known : Known) (t : List Entry) (noted : Noted) (goes_on : is_interrupted known noted.frame.id t (Came noted) ≡ false) where
   abbrev pub found_there : Option Fault
-  found_there = fault_with (carried (course known noted.frame.id t)) t (Came noted)
+  found_there = fault_with (own_window known.setup) (carried (course known noted.frame.id t)) t (Came noted)
 
   none_interrupts : (is_ended_by (is_on noted.frame.id (Came noted)) found_there ≡ false) × (is_some (cause_of known noted.frame.id t (Came noted)) ≡ false)
   none_interrupts =
@@ -123,7 +123,7 @@ module _ (known : Known) (t : List Entry) (noted : Noted) (item : Item) (brings 
       sym (ap (λ b. if b then frame_items (completed (came t) noted.frame) noted else []) (eq-eqb id id refl))
       ∙ append_cancel_left (items known id t) (items_of id t e) (item ∷ []) (sym (ap (λ b. if b then items known id t else items known id t ++ items_of id t e) goes_on) ∙ brings.adds)
 
-  none_found : fault_with (carried (course known id t)) t e ≡ None
+  none_found : fault_with (own_window known.setup) (carried (course known id t)) t e ≡ None
   none_found = no_fault_there known t noted goes_on
 
   none_before_it : cause known id t ≡ None
@@ -143,4 +143,4 @@ module _ (known : Known) (t : List Entry) (noted : Noted) (item : Item) (brings 
   pub is_good : IsGood known.setup (carried_by (items known id t) false) item
   is_good =
       subst (λ c. IsGood known.setup c item) carried_is
-      (good_item known.setup (carried (course known id t)) (completed (came t) noted.frame) noted item item_is (not_malformed (carried (course known id t)) t noted none_found waits_not) no_frame_cause)
+      (good_item known.setup (carried (course known id t)) (completed (came t) noted.frame) noted item item_is (not_malformed (own_window known.setup) (carried (course known id t)) t noted none_found waits_not) no_frame_cause)

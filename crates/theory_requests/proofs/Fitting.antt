@@ -36,9 +36,9 @@ no_fault_if true fault is = absurd (cc)
 no_fault_if false fault is = refl
 
 -- a frame without a fault, on a stream that the gateway doesn't answer, isn't malformed
-pub not_malformed : (carried : Carried) (t : List Entry) (noted : Noted) → fault_with carried t (Came noted) ≡ None → carried.waits ≡ false → is_malformed carried (completed (came t) noted.frame) noted ≡ false
-not_malformed carried t noted none calm =
-    let row : row_malformed carried t (Came noted) ≡ None = second_none (fault_of_rows t (Came noted)) (row_malformed carried t (Came noted)) none in
+pub not_malformed : (own : ℕ) (carried : Carried) (t : List Entry) (noted : Noted) → fault_with own carried t (Came noted) ≡ None → carried.waits ≡ false → is_malformed carried (completed (came t) noted.frame) noted ≡ false
+not_malformed own carried t noted none calm =
+    let row : row_malformed carried t (Came noted) ≡ None = second_none (fault_of_rows own t (Came noted)) (row_malformed carried t (Came noted)) none in
     sym (ap (λ b. not b && is_malformed carried (completed (came t) noted.frame) noted) calm) ∙ no_fault_if (not carried.waits && is_malformed carried (completed (came t) noted.frame) noted) _ row
 
 -- ---- tests

@@ -5,7 +5,7 @@ use Rattle.std.specs.List.{list_any}
 use Rattle.std.proofs.lemmas.Bool.{cases_Bool, or_parts}
 use Rattle.std.proofs.lemmas.Bool.Decides.{eqb_tells}
 use Rattle.model.specs.Logs.{Event}
-use Rattle.model.specs.Logs.Event.{Client, ClientEnd, ClientTook, Up, UpEnd, UpFailed, UpTook}
+use Rattle.model.specs.Logs.Event.{Client, ClientEnd, ClientTook, Up, UpEnd, UpFailed, UpTook, Drain}
 use Rattle.model.specs.Tapes.{Noted, Breach, Entry}
 use Rattle.model.specs.Tapes.Entry.{Came, Breached, Happened, Sent}
 use Rattle.model.specs.Openings.{Opened, exchanges, exchange_on, sent_for}
@@ -67,6 +67,7 @@ still_shut t (UpFailed j) k e = by (k == j)
     by true = refl
     by false = e
 still_shut t (UpTook j count) k e = e
+still_shut t Drain k e = e
 
 -- what is due to exchanges stays when a frame is sent
 owed_sent : (o : Opened) (t : List Entry) (noted : Noted) (due : Due) → owed o (Sent noted ∷ t) due ≡ owed o t due

@@ -5,6 +5,7 @@ use Rattle.std.proofs.lemmas.List.Folds.{list_any-append}
 use Rattle.model.specs.Messages.{ends_with}
 use Rattle.model.specs.Tapes.{Entry}
 use Rattle.model.specs.Streams.{items_of}
+use Rattle.model.specs.Setup.{own_window}
 use Rattle.model.specs.Known.{Known}
 use Rattle.model.specs.ErrorTable.{fault_with}
 use Rattle.model.specs.Courses.{course, carried, items, cause_of, interrupts}
@@ -13,7 +14,7 @@ use Rattle.model.specs.Courses.{course, carried, items, cause_of, interrupts}
 course_over : (known : Known) (stream : ℕ) (t : List Entry) → list_any ends_with (items known stream t) ≡ true → (course known stream t).over ≡ true
 course_over known stream [] ends = absurd (cc)
 course_over known stream (e ∷ t) ends =
-    by (course known stream t).over (interrupts stream e (fault_with (carried (course known stream t)) t e) (cause_of known stream t e)) (course_over known stream t) ends
+    by (course known stream t).over (interrupts stream e (fault_with (own_window known.setup) (carried (course known stream t)) t e) (cause_of known stream t e)) (course_over known stream t) ends
   where
     added : (x y : Bool) → (x || y) ≡ true → (x ≡ true → false ≡ true) → y ≡ true
     added true y e none = absurd (let clash : false ≡ true = none refl in cc)
@@ -27,4 +28,4 @@ course_over known stream (e ∷ t) ends =
 -- so whatever comes adds none
 pub items_frozen : (known : Known) (stream : ℕ) (t : List Entry) (e : Entry) → list_any ends_with (items known stream t) ≡ true → items known stream (e ∷ t) ≡ items known stream t
 items_frozen known stream t e ends =
-    ap (λ b. if b || interrupts stream e (fault_with (carried (course known stream t)) t e) (cause_of known stream t e) then items known stream t else items known stream t ++ items_of stream t e) (course_over known stream t ends)
+    ap (λ b. if b || interrupts stream e (fault_with (own_window known.setup) (carried (course known stream t)) t e) (cause_of known stream t e) then items known stream t else items known stream t ++ items_of stream t e) (course_over known stream t ends)

@@ -6,9 +6,8 @@ use Rattle.model.specs.Frames.{data_kind, headers_kind, rst_stream_kind, continu
 use Rattle.model.specs.Tapes.{Noted, Entry, sent}
 use Rattle.model.specs.Tapes.Entry.{Sent}
 use Rattle.model.specs.Decoding.{completed, begun, joined}
-use Rattle.model.specs.Limits.{most_streams}
 use Rattle.model.specs.Known.{Known}
-use Rattle.model.specs.Lifetimes.{opened, is_opened, is_over, is_active, ends_by, is_ended_by_client, is_ended_by_gateway, is_reset_by_client, is_reset_by_gateway}
+use Rattle.model.specs.Lifetimes.{opened, is_opened, is_over, is_active, ends_by, is_ended_by_client, is_ended_by_gateway, is_reset_by_client, is_reset_by_gateway, is_full}
 use Rattle.model.specs.Messages.{ends_with}
 use Rattle.model.specs.Causes.{Cause}
 use Rattle.model.specs.Courses.{items, cause, first_of_both}
@@ -58,8 +57,8 @@ module _ (t : List Entry) (noted : Noted) (is : noted.frame.kind ≡ goaway_kind
   -- unless it ends the connection, that is to end behind it just where it was
   pub end_same : (known : Known) → is_calming noted.frame ≡ false → must_end known (Sent noted ∷ t) ≡ must_end known t
   end_same known mild =
-      ap (λ b. (b || calls_for_end known t) || length (opened t) == most_streams && length (filter (λ id. not (is_over id (Sent noted ∷ t))) (opened t)) == 0) mild
-      ∙ ap (λ (ids : List ℕ). calls_for_end known t || length (opened t) == most_streams && length ids == 0) (all_same (opened t))
+      ap (λ b. (b || calls_for_end known t) || is_full t && length (filter (λ id. not (is_over id (Sent noted ∷ t))) (opened t)) == 0) mild
+      ∙ ap (λ (ids : List ℕ). calls_for_end known t || is_full t && length ids == 0) (all_same (opened t))
 
 -- a frame that is sent is no cause of an answer of the gateway's own
 cause_same : (known : Known) (t : List Entry) (noted : Noted) (stream : ℕ) → cause known stream (Sent noted ∷ t) ≡ cause known stream t

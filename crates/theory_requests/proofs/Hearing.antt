@@ -2,7 +2,7 @@
 use Rattle.std.proofs.Common.{◌≡◌, ℕ, true, false, List, ◌∷◌, refl, sym, ap, ◌∙◌}
 use Rattle.std.specs.Prelude.{None, option_map}
 use Rattle.model.specs.Logs.{Event}
-use Rattle.model.specs.Logs.Event.{Client, ClientEnd, ClientTook, Up, UpEnd, UpFailed, UpTook}
+use Rattle.model.specs.Logs.Event.{Client, ClientEnd, ClientTook, Up, UpEnd, UpFailed, UpTook, Drain}
 use Rattle.model.specs.Tapes.{Entry}
 use Rattle.model.specs.Tapes.Entry.{Happened}
 use Rattle.model.specs.Openings.{Opened}
@@ -32,6 +32,7 @@ open_heard t ClientEnd k is = absurd is
 open_heard t (ClientTook count) k is = absurd is
 open_heard t (UpFailed j) k is = absurd is
 open_heard t (UpTook j count) k is = absurd is
+open_heard t Drain k is = absurd is
 
 module _ (known : Known) (t : List Entry) (s : State) (h : Stands known t s) (told behind : Told) (is_told : IsTold known t told) (come : MayCome told s) (event : Event) (heard : Heard) (is_answer : IsAnswer event) (there : IsKept s (upstream_of event)) (is_so : IsSo known t (Hears event heard)) where
   abbrev pub u : State

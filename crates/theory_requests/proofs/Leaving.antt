@@ -4,7 +4,7 @@ use Rattle.std.specs.Prelude.{◌⊎◌}
 use Rattle.std.specs.List.{list_any}
 use Rattle.std.proofs.lemmas.Bool.{eq-eqb, ne_eqb}
 use Rattle.model.specs.Logs.{Event}
-use Rattle.model.specs.Logs.Event.{Client, ClientEnd, ClientTook, Up, UpEnd, UpFailed, UpTook}
+use Rattle.model.specs.Logs.Event.{Client, ClientEnd, ClientTook, Up, UpEnd, UpFailed, UpTook, Drain}
 use Rattle.model.specs.Logs.Act.{Open, ToUp, Close, CloseClient}
 use Rattle.model.specs.Tapes.{Noted, Breach, Entry, is_closed}
 use Rattle.model.specs.Tapes.Entry.{Came, Breached, Happened, Sent, Did}
@@ -41,6 +41,7 @@ open_same t (Up j piece) k other = refl
 open_same t (UpEnd j) k other = refl
 open_same t (UpFailed j) k other = ap (λ b. if b then false else is_open k t) (ne_eqb k j other)
 open_same t (UpTook j count) k other = refl
+open_same t Drain k other = refl
 
 -- whether a request asks for a head stays, where no item comes
 head_same : (known : Known) (o : Opened) (t : List Entry) (e : Entry) → items_of o.stream t e ≡ [] → is_asked_for_head known o (e ∷ t) ≡ is_asked_for_head known o t

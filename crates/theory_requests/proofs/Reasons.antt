@@ -3,7 +3,7 @@ use Rattle.std.proofs.Common.{◌≡◌, ℕ, true, ◌&&◌, ◌==◌, List, []
 use Rattle.std.specs.Prelude.{Some}
 use Rattle.std.proofs.lemmas.Bool.{ne_eqb}
 use Rattle.model.specs.Responses.{IsComplete}
-use Rattle.model.specs.Logs.Event.{Client, ClientEnd, ClientTook, Up, UpEnd, UpFailed, UpTook}
+use Rattle.model.specs.Logs.Event.{Client, ClientEnd, ClientTook, Up, UpEnd, UpFailed, UpTook, Drain}
 use Rattle.model.specs.Logs.Act.{Open, ToUp, Close, CloseClient}
 use Rattle.model.specs.Tapes.{Entry, is_closed}
 use Rattle.model.specs.Tapes.Entry.{Came, Breached, Happened, Sent, Did}
@@ -52,6 +52,7 @@ heard_same t (Happened (Up j piece)) o other = ap (λ b. if b && o.stream == giv
 heard_same t (Happened (UpEnd j)) o other = refl
 heard_same t (Happened (UpFailed j)) o other = refl
 heard_same t (Happened (UpTook j count)) o other = refl
+heard_same t (Happened Drain) o other = refl
 heard_same t (Sent noted) o other = refl
 heard_same t (Did act) o other = refl
 
@@ -66,6 +67,7 @@ ended_same t (Happened (Up j piece)) o other = refl
 ended_same t (Happened (UpEnd j)) o other = ap (λ b. if b && o.stream == given j (exchanges t) then true else ended_by o t) (ne_eqb o.k j other)
 ended_same t (Happened (UpFailed j)) o other = refl
 ended_same t (Happened (UpTook j count)) o other = refl
+ended_same t (Happened Drain) o other = refl
 ended_same t (Sent noted) o other = refl
 ended_same t (Did act) o other = refl
 

@@ -23,7 +23,7 @@ use Rattle.theory_requests.proofs.Telling.{serving}
 -- one route for every authority and path
 abbrev pub known : Known
 known = record {
-  setup = record { routes = record { authority = []; path = codes "/" } ∷ []; policy = Plain; passing = WholePassing; max_body = 1048576; max_response = 1048576; keep = false; most_idle = 8 };
+  setup = record { routes = record { authority = []; path = codes "/" } ∷ []; policy = Plain; passing = WholePassing; max_body = 1048576; max_response = 1048576; keep = false; most_idle = 8; more_room = 0 };
   failures = [];
 }
 
@@ -79,7 +79,7 @@ turn move ids = record { move = move; told = serving ids }
 
 -- settings of both sides, acknowledged
 abbrev pub m1 : List Turn
-m1 = turn (Sends (plain settings_ack)) [] ∷ turn (Takes (plain (frame 4 0 0 []))) [] ∷ turn (Sends (plain settings_frame)) [] ∷ []
+m1 = turn (Sends (plain settings_ack)) [] ∷ turn (Takes (plain (frame 4 0 0 []))) [] ∷ turn (Sends (plain (settings_frame 0))) [] ∷ []
 
 -- HEADERS of the POST
 abbrev pub post_head : Noted

@@ -6,7 +6,7 @@ use Rattle.std.proofs.lemmas.Bool.{and_parts, ne_eqb, eq-eqb}
 use Rattle.std.proofs.lemmas.Bool.Decides.{eqb_tells}
 use Rattle.model.specs.Messages.{Item}
 use Rattle.model.specs.Frames.{goaway_kind}
-use Rattle.model.specs.Setup.{Setup}
+use Rattle.model.specs.Setup.{Setup, own_window}
 use Rattle.model.specs.Logs.Act.{Open, ToUp, Close, CloseClient}
 use Rattle.model.specs.Tapes.{Noted, Breach, Entry, is_closed}
 use Rattle.model.specs.Tapes.Entry.{Came, Breached, Happened, Sent, Did}
@@ -42,7 +42,7 @@ use Rattle.theory_requests.proofs.Clauses.{all_stand, all_told}
 -- a stream that an entry isn't about is answered for no new cause
 cause_stays : (known : Known) (t : List Entry) (e : Entry) (stream : ℕ) → (about t e == stream && nat_lt 0 stream) ≡ false → cause known stream (e ∷ t) ≡ cause known stream t
 cause_stays known t e stream none =
-    ap (λ b. first_of_both (cause known stream t) (if b then cause_at known (course known stream t) t e (fault_with (carried (course known stream t)) t e) else None)) none ∙ no_other (cause known stream t)
+    ap (λ b. first_of_both (cause known stream t) (if b then cause_at known (course known stream t) t e (fault_with (own_window known.setup) (carried (course known stream t)) t e) else None)) none ∙ no_other (cause known stream t)
   where
     no_other : (c : Option Cause) → first_of_both c None ≡ c
     no_other None = refl

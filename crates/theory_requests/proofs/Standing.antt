@@ -6,7 +6,7 @@ use Rattle.std.proofs.lemmas.Bool.{eq-eqb}
 use Rattle.model.specs.Messages.{Field, Item, Request, ends_with}
 use Rattle.model.specs.Messages.Item.{Block, Content}
 use Rattle.model.specs.Http2.{HasHead, WellFormedHead, H2Request, authority_of, path_of}
-use Rattle.model.specs.Setup.{IsFirstMatch}
+use Rattle.model.specs.Setup.{IsFirstMatch, own_window}
 use Rattle.model.specs.Setup.Passing.{Whole as WholePassing, Streaming}
 use Rattle.model.specs.Tapes.{Entry, came, is_closed}
 use Rattle.model.specs.Tapes.Entry.{Came, Breached, Happened, Sent, Did}
@@ -206,7 +206,7 @@ unread_same known t e stream same u = record {
 
 -- the first item stays
 pub has_head_stays : (known : Known) (t : List Entry) (e : Entry) (stream : ℕ) (head : List Field) → HasHead (items known stream t) head → HasHead (items known stream (e ∷ t)) head
-has_head_stays known t e stream head has = by ((course known stream t).over || interrupts stream e (fault_with (carried (course known stream t)) t e) (cause_of known stream t e)) (items known stream t) (items_of stream t e) has
+has_head_stays known t e stream head has = by ((course known stream t).over || interrupts stream e (fault_with (own_window known.setup) (carried (course known stream t)) t e) (cause_of known stream t e)) (items known stream t) (items_of stream t e) has
   where
     by : (b : Bool) (xs ys : List Item) → HasHead xs head → HasHead (if b then xs else xs ++ ys) head
     by true xs ys h = h

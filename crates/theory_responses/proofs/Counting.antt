@@ -13,7 +13,7 @@ use Rattle.model.specs.Decoding.{completed}
 use Rattle.model.specs.Logs.Act.{Open, ToUp, Close, CloseClient}
 use Rattle.model.specs.Known.{Known}
 use Rattle.model.specs.Causes.Cause.{BadAnswer}
-use Rattle.model.specs.Lifetimes.{opened, opens_by, is_opened, is_over, is_active, active}
+use Rattle.model.specs.Lifetimes.{opened, opens_by, is_opened, is_over, is_active, active, is_drained}
 use Rattle.model.proofs.OpenedLaws.{opens_new}
 use Rattle.model.proofs.ActiveLaws.{active_beside, active_control, active_came}
 use Rattle.theory_responses.specs.State.{Kept, State, Move, find, change, without, unless_over, told, gone, answered, answered_if, blank, with_new, entry_of, after, state_of}
@@ -140,7 +140,7 @@ module _ (known : Known) (t : List Entry) (s : State) (noted : Noted) (over : Bo
   own = noted.frame.id
 
   abbrev opens_it : Bool
-  opens_it = opens_by (opened t) (completed (came t) noted.frame) noted.note
+  opens_it = opens_by (is_drained t) (opened t) (completed (came t) noted.frame) noted.note
 
   -- it opens no stream that is active
   none_opened : is_active own u ≡ (is_active own t && not over) → (b : Bool) → opens_it ≡ b → filter (λ x. is_active x u) (if b then own ∷ opened t else opened t) ≡ filter (λ x. is_active x u) (opened t)

@@ -8,7 +8,7 @@ use Rattle.std.proofs.lemmas.Bool.Decides.{eqb_tells}
 use Rattle.model.specs.Messages.{Item}
 use Rattle.model.specs.Messages.Item.{Block, Content}
 use Rattle.model.specs.Logs.{Event, Act}
-use Rattle.model.specs.Logs.Event.{Client, ClientEnd, ClientTook, Up, UpEnd, UpFailed, UpTook}
+use Rattle.model.specs.Logs.Event.{Client, ClientEnd, ClientTook, Up, UpEnd, UpFailed, UpTook, Drain}
 use Rattle.model.specs.ResponseHeads.{Head}
 use Rattle.model.specs.Deliveries.{Delivery, heads_in}
 use Rattle.model.specs.Tapes.{Noted, Breach, Entry, sent}
@@ -16,6 +16,7 @@ use Rattle.model.specs.Tapes.Entry.{Came, Breached, Happened, Sent, Did}
 use Rattle.model.specs.Streams.{items_of}
 use Rattle.model.specs.Openings.{Opened, exchanges, route_of, given, is_of}
 use Rattle.model.specs.Available.{heard_by, ended_by, items_on, IsIn, IsShown}
+use Rattle.model.specs.Setup.{own_window}
 use Rattle.model.specs.Known.{Known, fails_behind}
 use Rattle.model.specs.Causes.{Cause, cause_if}
 use Rattle.model.specs.Causes.Cause.{BadAnswer}
@@ -96,11 +97,11 @@ none_added false xs ys e = sym (ap (λ l. xs ++ l) e ∙ append-nil xs)
 -- where something came on the stream the method stays
 pub head_stays : (known : Known) (stream : ℕ) (t : List Entry) (e : Entry) → (items known stream t ≡ [] → ⊥) → is_to_head (items known stream t) ≡ is_to_head (items known stream (e ∷ t))
 head_stays known stream t e some =
-    first_tells ((course known stream t).over || interrupts stream e (fault_with (carried (course known stream t)) t e) (cause_of known stream t e)) (items known stream t) (items_of stream t e) some
+    first_tells ((course known stream t).over || interrupts stream e (fault_with (own_window known.setup) (carried (course known stream t)) t e) (cause_of known stream t e)) (items known stream t) (items_of stream t e) some
 
 pub items_stay : (known : Known) (stream : ℕ) (t : List Entry) (e : Entry) → items_of stream t e ≡ [] → items known stream t ≡ items known stream (e ∷ t)
 items_stay known stream t e none =
-    none_added ((course known stream t).over || interrupts stream e (fault_with (carried (course known stream t)) t e) (cause_of known stream t e)) (items known stream t) (items_of stream t e) none
+    none_added ((course known stream t).over || interrupts stream e (fault_with (own_window known.setup) (carried (course known stream t)) t e) (cause_of known stream t e)) (items known stream t) (items_of stream t e) none
 
 -- ---- entries of each kind
 
@@ -180,7 +181,7 @@ came_quiet known t noted stream cause out heads begun = record {
 -- a frame on another stream
 pub none_by_other : (known : Known) (stream : ℕ) (t : List Entry) (noted : Noted) → (noted.frame.id ≡ stream → ⊥) → cause_of known stream t (Came noted) ≡ None
 none_by_other known stream t noted other =
-    ap (λ b. if b && nat_lt 0 stream then cause_at known (course known stream t) t (Came noted) (fault_with (carried (course known stream t)) t (Came noted)) else None) (ne_eqb noted.frame.id stream other)
+    ap (λ b. if b && nat_lt 0 stream then cause_at known (course known stream t) t (Came noted) (fault_with (own_window known.setup) (carried (course known stream t)) t (Came noted)) else None) (ne_eqb noted.frame.id stream other)
 
 -- ---- events
 
@@ -202,6 +203,7 @@ heard_same t (Up k piece) o other = sym (ap (λ b. if b then heard_by o t ++ pie
 heard_same t (UpEnd k) o other = refl
 heard_same t (UpFailed k) o other = refl
 heard_same t (UpTook k count) o other = refl
+heard_same t Drain o other = refl
 
 ended_same : (t : List Entry) (event : Event) (o : Opened) → IsBeside t event o → ended_by o t ≡ ended_by o (Happened event ∷ t)
 ended_same t (Client piece) o other = refl
@@ -211,6 +213,7 @@ ended_same t (Up k piece) o other = refl
 ended_same t (UpEnd k) o other = sym (ap (λ b. if b then true else ended_by o t) (beside o k (given k (exchanges t)) other))
 ended_same t (UpFailed k) o other = refl
 ended_same t (UpTook k count) o other = refl
+ended_same t Drain o other = refl
 
 -- What is shown of an answer before the event is shown behind it, where the request is of this stream.
 abbrev pub StaysShown : Known → List Entry → Event → Opened → ℕ → Type 0

@@ -57,7 +57,7 @@ two_ready = refl
 -- one route, for another authority
 abbrev pub elsewhere : Known
 elsewhere = record {
-  setup = record { routes = record { authority = codes "a.example"; path = codes "/" } ∷ []; policy = Plain; passing = Whole; max_body = 1048576; max_response = 1048576; keep = false; most_idle = 8 };
+  setup = record { routes = record { authority = codes "a.example"; path = codes "/" } ∷ []; policy = Plain; passing = Whole; max_body = 1048576; max_response = 1048576; keep = false; most_idle = 8; more_room = 0 };
   failures = [];
 }
 
@@ -87,7 +87,7 @@ not_found = field (codes ":status") (codes "404") ∷ field (codes "content-leng
 
 -- the gateway's settings, the client's, and their acknowledgement
 abbrev pub greeted : List Move
-greeted = Sends (plain settings_ack) ∷ Takes (plain (frame 4 0 0 [])) no_change ∷ Sends (plain settings_frame) ∷ []
+greeted = Sends (plain settings_ack) ∷ Takes (plain (frame 4 0 0 [])) no_change ∷ Sends (plain (settings_frame 0)) ∷ []
 
 -- the request opens stream 1, and no route takes it
 abbrev pub asked : List Move
@@ -110,13 +110,13 @@ unfolding total_size
 greeted_allowed = (
   (
     (tt, no_neighbours [] refl, record { no_block = refl; no_data = refl }),
-    no_neighbours (map entry_of (Sends (plain settings_frame) ∷ [])) refl,
+    no_neighbours (map entry_of (Sends (plain (settings_frame 0)) ∷ [])) refl,
     record {
       opened = refl;
       caused = λ a. record { cause = refl; out = refl; heads = refl };
     },
   ),
-  no_neighbours (map entry_of (Takes (plain (frame 4 0 0 [])) no_change ∷ Sends (plain settings_frame) ∷ [])) refl,
+  no_neighbours (map entry_of (Takes (plain (frame 4 0 0 [])) no_change ∷ Sends (plain (settings_frame 0)) ∷ [])) refl,
   record { no_block = refl; no_data = refl },
 )
 
@@ -184,7 +184,7 @@ may_come : AllMayCome (seen answered)
 unfolding total_size
 may_come = (
   (
-    (((tt, record { no_block = refl; no_data = refl }), (nobody_waits (Sends (plain settings_frame) ∷ []) refl, refl, refl)), record { no_block = refl; no_data = refl }),
+    (((tt, record { no_block = refl; no_data = refl }), (nobody_waits (Sends (plain (settings_frame 0)) ∷ []) refl, refl, refl)), record { no_block = refl; no_data = refl }),
     (nobody_waits greeted refl, refl, refl),
   ),
   (reply_goes (windows_in (sight_of (seen asked))), record { active = refl; brings = refl }),

@@ -10,7 +10,7 @@ use Rattle.model.specs.Limits.{longest_section}
 use Rattle.model.specs.Messages.{Field}
 use Rattle.model.specs.Responses.{H1Response, IsComplete, Seen}
 use Rattle.model.specs.Logs.{Event}
-use Rattle.model.specs.Logs.Event.{Client, ClientEnd, ClientTook, Up, UpEnd, UpFailed, UpTook}
+use Rattle.model.specs.Logs.Event.{Client, ClientEnd, ClientTook, Up, UpEnd, UpFailed, UpTook, Drain}
 use Rattle.model.specs.Setup.{Setup, Passing}
 use Rattle.model.specs.Setup.Passing.{Whole, Streaming}
 use Rattle.model.specs.Tapes.{Entry, sent}
@@ -302,6 +302,7 @@ heard_more t (ClientTook count) = sym (append-nil (heard_by (exchange_on 0 t) t)
 heard_more t (UpEnd k) = sym (append-nil (heard_by (exchange_on k t) t))
 heard_more t (UpFailed k) = sym (append-nil (heard_by (exchange_on k t) t))
 heard_more t (UpTook k count) = sym (append-nil (heard_by (exchange_on 0 t) t))
+heard_more t Drain = sym (append-nil (heard_by (exchange_on 0 t) t))
 
 -- What is shown of an answer that is passed on as it comes is seen in its text.
 pub record IsSeen (text : List ℕ) (to_head : Bool) (octets : List ℕ) : Type 0 where
@@ -401,6 +402,7 @@ module _ (known : Known) (t : List Entry) (event : Event) (stream : ℕ) (news :
       by (UpEnd k) fits same more = omega (arith, more, w)
       by (UpFailed k) fits same more = omega (arith, more, w)
       by (UpTook k count) fits same more = omega (arith, more, w)
+      by Drain fits same more = omega (arith, more, w)
 
 -- ---- runs
 

@@ -3,7 +3,7 @@ use Rattle.std.proofs.Common.{◌≡◌, ℕ, Bool, false, List, [], ◌∷◌, 
 use Rattle.std.proofs.lemmas.List.{append-nil}
 use Rattle.std.proofs.lemmas.Bool.Decides.{eqb_tells}
 use Rattle.model.specs.Logs.{Event}
-use Rattle.model.specs.Logs.Event.{Client, ClientEnd, ClientTook, Up, UpEnd, UpFailed, UpTook}
+use Rattle.model.specs.Logs.Event.{Client, ClientEnd, ClientTook, Up, UpEnd, UpFailed, UpTook, Drain}
 use Rattle.model.specs.Tapes.{Entry}
 use Rattle.model.specs.Tapes.Entry.{Happened}
 use Rattle.model.specs.Responses.{IsComplete}
@@ -44,6 +44,7 @@ module _ (known : Known) (t : List Entry) where
   own_shown ClientEnd idle d shown = shown
   own_shown (ClientTook count) idle d shown = shown
   own_shown (UpTook k count) idle d shown = shown
+  own_shown Drain idle d shown = shown
 
   -- and of all others
   idle_shown : (event : Event) → AreApart (exchanges t) → IsIdle known t (upstream_of event) → (o : Opened) → IsIn o (exchanges t) → StaysShown known t event o o.stream

@@ -7,7 +7,7 @@ use Rattle.std.proofs.lemmas.Bool.Decides.{eqb_tells}
 use Rattle.model.specs.ResponseHeads.{Head}
 use Rattle.model.specs.Responses.{Seen}
 use Rattle.model.specs.Logs.{Event, Act}
-use Rattle.model.specs.Logs.Event.{Client, ClientEnd, ClientTook, Up, UpEnd, UpFailed, UpTook}
+use Rattle.model.specs.Logs.Event.{Client, ClientEnd, ClientTook, Up, UpEnd, UpFailed, UpTook, Drain}
 use Rattle.model.specs.Logs.Act.{Open, ToUp, Close, CloseClient}
 use Rattle.model.specs.Setup.Passing.{Whole}
 use Rattle.model.specs.Tapes.{Entry}
@@ -114,6 +114,7 @@ module _ (known : Known) (t : List Entry) (s : State) (p : Placed known t s) (h 
   event_short (UpEnd k) judged o there none long = still_short (Happened (UpEnd k)) o there refl none long
   event_short (UpFailed k) judged o there none long = still_short (Happened (UpFailed k)) o there refl none long
   event_short (UpTook k count) judged o there none long = still_short (Happened (UpTook k count)) o there refl none long
+  event_short Drain judged o there none long = still_short (Happened Drain) o there refl none long
 
   -- an exchange begins, of which nothing was heard
   begun_short : (act : Act) (new o : Opened) → IsGivenNone new.stream (exchanges t) → 0 < new.stream → o ≡ new → IsTooLong known (heard_by o (Did act ∷ t)) (is_to_head (items known o.stream (Did act ∷ t))) → ⊥

@@ -11,11 +11,12 @@ use Rattle.model.specs.Decoding.{completed}
 use Rattle.model.specs.Streams.{items_of}
 use Rattle.model.specs.Openings.{Opened, exchanges, given}
 use Rattle.model.specs.Available.{items_on}
+use Rattle.model.specs.Setup.{own_window}
 use Rattle.model.specs.Known.{Known, fails_behind}
 use Rattle.model.specs.Causes.{Cause}
 use Rattle.model.specs.Causes.Cause.{BadAnswer}
 use Rattle.model.specs.ErrorTable.{fault_with}
-use Rattle.model.specs.Lifetimes.{opened, opens_by, is_opened, is_over, is_active, is_ended_by_client, is_ended_by_gateway, is_reset_by_client, is_reset_by_gateway}
+use Rattle.model.specs.Lifetimes.{opened, opens_by, is_opened, is_over, is_active, is_ended_by_client, is_ended_by_gateway, is_reset_by_client, is_reset_by_gateway, is_drained}
 use Rattle.model.specs.Courses.{course, carried, items, about, upstream_of, cause_of, interrupts, first_of_both}
 use Rattle.model.specs.Offers.{IsGiven}
 use Rattle.model.proofs.ExchangeLaws.{given_in}
@@ -46,7 +47,7 @@ grown_some false (x ∷ xs) ys some e = cc
 -- a stream that has items keeps them
 pub items_kept : (known : Known) (stream : ℕ) (t : List Entry) (e : Entry) → (items known stream t ≡ [] → ⊥) → items known stream (e ∷ t) ≡ [] → ⊥
 items_kept known stream t e =
-    grown_some ((course known stream t).over || interrupts stream e (fault_with (carried (course known stream t)) t e) (cause_of known stream t e)) (items known stream t) (items_of stream t e)
+    grown_some ((course known stream t).over || interrupts stream e (fault_with (own_window known.setup) (carried (course known stream t)) t e) (cause_of known stream t e)) (items known stream t) (items_of stream t e)
 
 -- ---- lives
 
@@ -80,7 +81,7 @@ module _ (t : List Entry) (noted : Noted) where
   u = Came noted ∷ t
 
   abbrev opens_it : Bool
-  opens_it = opens_by (opened t) (completed (came t) noted.frame) noted.note
+  opens_it = opens_by (is_drained t) (opened t) (completed (came t) noted.frame) noted.note
 
   -- a stream that isn't opened behind the frame wasn't before
   pub unopened_before : (id : ℕ) → is_opened id u ≡ false → is_opened id t ≡ false

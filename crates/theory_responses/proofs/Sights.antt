@@ -24,7 +24,7 @@ some_begun items begun none = let clash : false ≡ true = sym (ap is_begun none
 
 -- nothing was said of a stream that may be opened yet
 abbrev AreIdle : Summary → Type 0
-AreIdle s = s.ends ≡ false → (id : ℕ) → may_open s.opened id ≡ true → s.stream id ≡ fresh
+AreIdle s = s.ends ≡ false → (id : ℕ) → may_open s.drained s.opened id ≡ true → s.stream id ≡ fresh
 
 -- the summary of a tape
 of_summary : (known : Known) (t : List Entry) → AreIdle (summary_of known t) → IsRightOf known t (sight_in (summary_of known t))

@@ -1,5 +1,5 @@
 -- The outbox of a stream: what is on offer for it and wasn't sent yet.
-use Rattle.std.specs.Prelude.{◌≡◌, ◌≢◌, ℕ, ◌+◌, ◌<◌, ◌≤◌, Bool, true, false, ◌&&◌, ◌||◌, List, [], ◌∷◌, ◌++◌, length, take, drop, Option, Some, None, is_some}
+use Rattle.std.specs.Prelude.{◌≡◌, ◌≢◌, ℕ, ◌+◌, ◌<◌, ◌≤◌, Bool, true, false, ◌&&◌, List, [], ◌∷◌, ◌++◌, length, take, drop, Option, Some, None, is_some}
 use Rattle.model.specs.Octets.{is_empty}
 use Rattle.model.specs.Messages.{Field, Item}
 use Rattle.model.specs.Messages.Item.{Block, Content}

@@ -1,5 +1,5 @@
 -- What of an upstream's octets is on offer, whole or not, and how it changes.
-use Rattle.std.specs.Prelude.{◌≡◌, ℕ, Bool, true, false, List, [], None, is_some}
+use Rattle.std.specs.Prelude.{◌≡◌, ℕ, Bool, true, List, [], None, is_some}
 use Rattle.model.specs.Setup.{Passing}
 use Rattle.model.specs.Deliveries.{Delivery}
 use Rattle.model.specs.Available.{IsShown}

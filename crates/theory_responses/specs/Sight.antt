@@ -11,7 +11,7 @@ use Rattle.model.specs.Causes.{Cause}
 use Rattle.model.specs.Lifetimes as lives
 use Rattle.model.specs.Lifetimes.{may_open, is_opened, is_active, is_ended_by_client}
 use Rattle.model.specs.Limits.{first_window}
-use Rattle.model.specs.WindowsOnTape.{stream_window, connection_window, room_on}
+use Rattle.model.specs.WindowsOnTape.{stream_window, connection_window, back_on}
 use Rattle.model.specs.Courses.{course, items}
 use Rattle.model.specs.ErrorClause.{calls_for_end}
 use Rattle.theory_errors.specs.Summary.{Summary}
@@ -63,9 +63,9 @@ pub record IsRightOf (known : Known) (t : List Entry) (sight : Sight) : Type 0 w
   pub ended : (id : ℕ) → is_active id t ≡ true → sight.ended id ≡ is_ended_by_client id t
   pub cause : (id : ℕ) → is_active id t ≡ true → sight.cause id ≡ (course known id t).cause
   -- nothing was said of a stream that may be opened yet, as long as the connection goes on
-  pub new : sight.ends ≡ false → (id : ℕ) → may_open (lives.opened t) id ≡ true → (sight.cause id ≡ None) × ((course known id t).cause ≡ None)
-  -- and its receiving window is as at first
-  pub room : sight.ends ≡ false → (id : ℕ) → may_open (lives.opened t) id ≡ true → room_on id t ≡ pos first_window
+  pub new : sight.ends ≡ false → (id : ℕ) → may_open (lives.is_drained t) (lives.opened t) id ≡ true → (sight.cause id ≡ None) × ((course known id t).cause ≡ None)
+  -- and nothing came on it, nor was given back: its receiving window is as at first
+  pub room : sight.ends ≡ false → (id : ℕ) → may_open (lives.is_drained t) (lives.opened t) id ≡ true → back_on id t ≡ pos 0
   pub has_items : (id : ℕ) → is_active id t ≡ true → sight.has_items id ≡ true → items known id t ≡ [] → ⊥
   pub own : (id : ℕ) → is_active id t ≡ true → sight.own id ≡ stream_window id t
   pub shared : sight.shared ≡ connection_window t

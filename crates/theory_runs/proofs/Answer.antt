@@ -110,8 +110,10 @@ ledger_with row window untaken = record {
     continuations = 0;
     block_out = None;
     first_size = 65535;
+    own = 65535;
     window = pos window;
     room = pos 65535;
+    drained = false;
     rows = row ∷ [];
     resets = 0;
     given = record { k = 1; route = 0; stream = 1 } ∷ [];

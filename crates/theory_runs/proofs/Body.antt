@@ -1,6 +1,6 @@
 -- The run goes on otherwise: behind the GET a POST begins on stream 3, with two octets of its body, which are given back; a second GET
 -- goes out on stream 5. Then the POST is reset in the middle of its body, or comes to its end and goes out.
-use Rattle.std.proofs.Common.{◌≡◌, ℕ, ◌==◌, ◌&&◌, Bool, true, false, not, if◌then◌else◌, List, [], ◌∷◌, Option, Some, None, refl, sym, ap, ◌∙◌, inl, inr, arith, pos}
+use Rattle.std.proofs.Common.{◌≡◌, ℕ, ◌==◌, ◌&&◌, Bool, true, false, not, if◌then◌else◌, List, [], ◌∷◌, Option, Some, None, refl, sym, ap, ◌∙◌, inl, inr, arith, pos, ◌-ℤ◌}
 use Rattle.std.specs.Prelude.{codes, length}
 use Rattle.std.specs.List.{list_all}
 use Rattle.model.specs.Messages.{Field}
@@ -111,7 +111,7 @@ cancelled_tape = refl
 
 -- the POST, of which so many octets came, in a window of the rest
 abbrev pub posting : ℕ → ℕ → Told
-posting octets room = record fresh { room = pos room; outline = record { begun = true; declared = None; octets = octets; over = false; cause = None; head_out = false } }
+posting octets room = record fresh { room = pos room -ℤ pos 65535; outline = record { begun = true; declared = None; octets = octets; over = false; cause = None; head_out = false } }
 
 -- the rows
 abbrev pub get_row : ℕ → Row

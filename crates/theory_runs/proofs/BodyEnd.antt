@@ -1,5 +1,5 @@
 -- The POST of the run comes to its end instead: it goes out whole, behind the GETs before it and between its frames.
-use Rattle.std.proofs.Common.{◌≡◌, ℕ, ◌==◌, Bool, true, false, not, if◌then◌else◌, List, [], ◌∷◌, ◌++◌, refl, sym, ap, ◌∙◌, subst, inl, inr, arith, pos, append_assoc, append-nil}
+use Rattle.std.proofs.Common.{◌≡◌, ℕ, ◌==◌, Bool, true, false, not, if◌then◌else◌, List, [], ◌∷◌, ◌++◌, refl, sym, ap, ◌∙◌, subst, inl, inr, arith, pos, append_assoc, append-nil, ◌-ℤ◌}
 use Rattle.std.proofs.lemmas.Bool.{eqb-true}
 use Rattle.std.specs.Prelude.{codes, length, None}
 use Rattle.std.specs.List.{list_all, flat_map, concat}
@@ -73,7 +73,7 @@ ended_tape = refl
 
 -- the POST, which the client ended
 abbrev pub posted : Told
-posted = record fresh { ended_by_client = true; room = pos 65534; outline = record { begun = true; declared = None; octets = 3; over = true; cause = None; head_out = false } }
+posted = record fresh { ended_by_client = true; room = pos 65534 -ℤ pos 65535; outline = record { begun = true; declared = None; octets = 3; over = true; cause = None; head_out = false } }
 
 abbrev pub all_rows : List Row
 all_rows = get_row 5 ∷ record { id = 3; slot = Live posted } ∷ get_row 1 ∷ []

@@ -1,6 +1,6 @@
 -- The run with a streamed request goes on both ways: its response is passed on as it comes while octets of the request wait, which are
 -- given back late; the request ends, and then the response, and the last octet of the request goes back behind the end of its stream.
-use Rattle.std.proofs.Common.{◌≡◌, ℕ, ◌+◌, ◌==◌, true, false, List, [], ◌∷◌, ◌++◌, length, Some, None, refl, subst, inl, inr, arith, pos}
+use Rattle.std.proofs.Common.{◌≡◌, ℕ, ◌+◌, ◌==◌, true, false, List, [], ◌∷◌, ◌++◌, length, Some, None, refl, subst, inl, inr, arith, pos, ◌-ℤ◌}
 use Rattle.std.proofs.lemmas.Bool.{eqb-true}
 use Rattle.std.specs.Prelude.{codes, negsuc}
 use Rattle.model.specs.Messages.Item.{Block, Content}
@@ -129,10 +129,10 @@ abbrev pub sent_one : Told
 sent_one = record begun { balance = negsuc 0 }
 
 abbrev pub paid_back : Told
-paid_back = record sent_one { room = pos 65535 }
+paid_back = record sent_one { room = pos 0 }
 
 abbrev pub asked_all : Told
-asked_all = record sent_one { ended_by_client = true; room = pos 65534; outline = record { begun = true; declared = None; octets = 3; over = true; cause = None; head_out = false } }
+asked_all = record sent_one { ended_by_client = true; room = pos 65534 -ℤ pos 65535; outline = record { begun = true; declared = None; octets = 3; over = true; cause = None; head_out = false } }
 
 abbrev pub at_heard : State
 at_heard = record at_waits {

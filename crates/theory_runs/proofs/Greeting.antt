@@ -19,7 +19,7 @@ use Rattle.theory.specs.Rule.{MayDo, AllAllowed, RestsBehind}
 
 -- one route for every authority and path; requests and responses are passed on whole
 abbrev pub setup : Setup
-setup = record { routes = record { authority = []; path = codes "/" } ∷ []; policy = Indexing; passing = Whole; max_body = 1048576; max_response = 1048576; keep = false; most_idle = 8 }
+setup = record { routes = record { authority = []; path = codes "/" } ∷ []; policy = Indexing; passing = Whole; max_body = 1048576; max_response = 1048576; keep = false; most_idle = 8; more_room = 0 }
 
 -- a frame by its parts
 abbrev pub frame : ℕ → ℕ → ℕ → List ℕ → Frame
@@ -41,7 +41,7 @@ never e = absurd (let clash : false ≡ true = e in cc)
 
 -- the gateway's settings
 abbrev pub ours : Decision
-ours = Sends (plain settings_frame) first_table
+ours = Sends (plain (settings_frame 0)) first_table
 
 -- the client's settings
 abbrev pub theirs : Decision
@@ -61,7 +61,7 @@ abbrev pub greeted : List Move
 greeted = Settles ∷ Does acked ∷ settings_came
 
 -- the tape
-pub greeted_tape : tape_of greeted ≡ Sent (plain settings_ack) ∷ Came (plain (frame 4 0 0 [])) ∷ Sent (plain settings_frame) ∷ []
+pub greeted_tape : tape_of greeted ≡ Sent (plain settings_ack) ∷ Came (plain (frame 4 0 0 [])) ∷ Sent (plain (settings_frame 0)) ∷ []
 greeted_tape = refl
 
 -- ---- each may come

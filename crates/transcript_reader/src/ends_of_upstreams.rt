@@ -239,6 +239,7 @@ fn push_event(alloc: Global, event: &Event, events: &mut Vec<Event>) -> Result<(
         Event::UpEnd(k) => Event::UpEnd(*k),
         Event::UpFailed(k) => Event::UpFailed(*k),
         Event::UpTook(k, count) => Event::UpTook(*k, *count),
+        Event::Drain => Event::Drain,
     };
     events.push(copied)?;
     Ok(())

@@ -21,7 +21,7 @@ fn events_of(alloc: Global, script: &str) -> Result<Option<Vec<Event>>, AllocErr
 fn is_same_event(one: &Event, other: &Event) -> bool {
     match (one, other) {
         (Event::Client(octets), Event::Client(others)) => octets.as_slice() == others.as_slice(),
-        (Event::ClientEnd, Event::ClientEnd) => true,
+        (Event::ClientEnd, Event::ClientEnd) | (Event::Drain, Event::Drain) => true,
         (Event::ClientTook(count), Event::ClientTook(most)) => count == most,
         (Event::Up(k, octets), Event::Up(j, others)) => {
             k == j && octets.as_slice() == others.as_slice()

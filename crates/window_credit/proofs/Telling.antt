@@ -420,10 +420,10 @@ above_in : (passing : Passing) (t : List Entry) (s : State) (id : ℕ) → Stand
 above_in Whole t s id is = subst (IsAbove (s.took (s.row id).k)) (sym is.queue) tt
 above_in Streaming t s id is = is.queue.above
 
-pub ahead : (passing : Passing) (moves : List Move) → AreAllowed passing moves → NoneReached (state_of passing moves)
-ahead passing moves all =
-    let h : Receiving passing (tape_of moves) (state_of passing moves) = receiving passing moves all in
+pub ahead : (more : ℕ) (passing : Passing) (moves : List Move) → AreAllowed more passing moves → NoneReached (state_of more passing moves)
+ahead more passing moves all =
+    let h : Receiving more passing (tape_of moves) (state_of more passing moves) = receiving more passing moves all in
     record {
-      apart = apart_in (state_of passing moves).live (live_apart passing (tape_of moves) (state_of passing moves) h.keeping);
-      above = λ id on. above_in passing (tape_of moves) (state_of passing moves) id (h.keeping.streams id (sym (live_among passing (tape_of moves) (state_of passing moves) id h.keeping) ∙ on));
+      apart = apart_in (state_of more passing moves).live (live_apart more passing (tape_of moves) (state_of more passing moves) h.keeping);
+      above = λ id on. above_in passing (tape_of moves) (state_of more passing moves) id (h.keeping.streams id (sym (live_among more passing (tape_of moves) (state_of more passing moves) id h.keeping) ∙ on));
     }

@@ -106,7 +106,7 @@ pub fn sides_take()
 
 /// Behind moves that are allowed nothing waits behind a mark that is reached.
 pub fn marks_are_ahead()
-    ensures { (passing : Passing) (moves : List Move) → AreAllowed passing moves → NoneReached (state_of passing moves) }
+    ensures { (more : ℕ) (passing : Passing) (moves : List Move) → AreAllowed more passing moves → NoneReached (state_of more passing moves) }
 {}
 
 /// An id is above all that are kept where it is above each that is found.

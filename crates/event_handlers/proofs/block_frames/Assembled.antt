@@ -113,7 +113,7 @@ module _ (setup : Setup) (old : View) (rest : IsAtRest old) (frame : Frame) (mid
       let same : mid ≡ inbound_behind setup old.untaken old.inbound noted is.next = left_is setup old.untaken old.inbound mid noted is.next is.judged.left is.stays is.table in
       passed_none setup old rest frame mid of kept few_rows outputs small judged.GoesOn is (ap is_fatal is.judged.faultless) same
       (part_addition setup book noted of few_rows is.judged.says)
-      (part_owes setup book noted of few_rows is.judged.faultless is.judged.says ∙ sym (no_goaway setup told noted (ap (λ (o : Option Partial). opens_by told.opened o is.note) is.judged.says)) ∙ goaway setup old rest frame mid of kept few_rows outputs small judged.GoesOn is (ap (λ (i : Inbound). ids_of i.rows) same))
+      (part_owes setup book noted of few_rows is.judged.faultless is.judged.says ∙ sym (no_goaway setup told noted (ap (λ (o : Option Partial). opens_by told.drained told.opened o is.note) is.judged.says)) ∙ goaway setup old rest frame mid of kept few_rows outputs small judged.GoesOn is (ap (λ (i : Inbound). ids_of i.rows) same))
       (ap (λ (c : Option Cause). first_of_both (find old.inbound.rows frame.id).outline.cause c) (idle_no_cause setup told noted is.judged.faultless (ap (λ (o : Option Partial). is_some o || frame.kind == data_kind) is.judged.says ∙ not_data setup book noted of few_rows)) ∙ no_more (find old.inbound.rows frame.id).outline.cause)
       result new put_out acted
 

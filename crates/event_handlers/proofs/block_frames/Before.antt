@@ -1,5 +1,5 @@
 -- What holds before a frame with a fragment of a header block is taken, and of what the judgement left.
-use Rattle.std.proofs.Common.{◌≡◌, ℕ, ◌≤◌, ◌%◌, Bool, true, false, not, ◌&&◌, ◌==◌, nat_lt, if◌then◌else◌, List, [], ◌∷◌, map, length, Option, Some, None, refl, sym, ◌∙◌, ap, subst, inl, inr}
+use Rattle.std.proofs.Common.{◌≡◌, ℕ, ◌≤◌, ◌%◌, Bool, true, false, not, ◌&&◌, ◌||◌, ◌==◌, nat_lt, if◌then◌else◌, List, [], ◌∷◌, map, length, Option, Some, None, refl, sym, ◌∙◌, ap, subst, inl, inr}
 use Rattle.std.specs.Prelude.{is_none, reverse}
 use Rattle.std.specs.List.{list_all}
 use Rattle.std.proofs.lemmas.Bool.{and_parts}
@@ -7,12 +7,14 @@ use Rattle.model.specs.Frames.{Frame, settings_kind, is_ack, goaway, no_error}
 use Rattle.model.specs.Setup.{Setup}
 use Rattle.model.specs.Limits.{most_streams}
 use Rattle.model.specs.Tables.{Table}
-use Rattle.model.specs.Tapes.{Noted}
+use Rattle.model.specs.Tapes.{Note, Noted}
+use Rattle.model.specs.Tapes.Note.{NoBlock, Fields, Undecodable, Unread}
 use Rattle.model.specs.Tapes.Entry.{Came}
 use Rattle.model.specs.Logs.{Output}
 use Rattle.model.specs.Decoding.{Partial, is_read}
 use Rattle.model.specs.ErrorClause.{is_fatal}
-use Rattle.model.specs.Lifetimes.{may_open}
+use Rattle.model.specs.Lifetimes.{may_open, opens_by}
+use Rattle.model.proofs.OwedSteps.{neither as below_or_same}
 use Rattle.model.specs.WindowsOnTape.{is_any, data_length, has_settings}
 use Rattle.theory_errors.specs.Summary.{Summary}
 use Rattle.model.specs.SettingValues.{settings_in, settings_fault, initial_window_after}
@@ -50,6 +52,7 @@ use Rattle.refinement.specs.Bringing.{Course}
 use Rattle.refinement.specs.Led.{IsLed}
 use Rattle.refinement.proofs.Coming.{outside_of, inbound_in, inbound_behind, change_between, offers_with, encoding_with, told_of_rows}
 use Rattle.refinement.proofs.Coming as coming
+use Rattle.connection_state.proofs.Beyond.{none_opens}
 use Rattle.refinement.proofs.Halves.{not_half_closed}
 use Rattle.refinement.proofs.Heads as heads
 use Rattle.refinement.proofs.Resting.{rests_are_ready}
@@ -91,15 +94,31 @@ brings_none frame (inr is) = ap (λ k. data_length is_any (record frame { kind =
 -- the GOAWAY that it calls for, by the streams behind it
 pub goaway_is : (setup : Setup) (untaken : ℕ) (inbound : Inbound) (noted : Noted) (kept : AreKept inbound.rows) (rows : List Row) → ids_of rows ≡ ids_of (book_after setup false (book_of (outside_of untaken) inbound) (Came noted)).rows
     → last_goaway_in (told_of (outside_of untaken) inbound) (Came noted) ≡ goaway_frames (goaway_behind (length inbound.rows) rows)
-goaway_is setup untaken inbound noted kept rows same = by_ids (opened_after (told_of (outside_of untaken) inbound) (Came noted)) (same ∙ ids_behind setup (book_of (outside_of untaken) inbound) noted kept)
+goaway_is setup untaken inbound noted kept rows same = by_ids inbound.drained (opened_after (told_of (outside_of untaken) inbound) (Came noted)) (same ∙ ids_behind setup (book_of (outside_of untaken) inbound) noted kept) stays
   where
+    -- where the connection is drained, none is opened
+    none_by : (block : Option Partial) (note : Note) → opens_by true (ids_of inbound.rows) block note ≡ false
+    none_by None note = refl
+    none_by (Some block) (Fields fields) = none_opens (ids_of inbound.rows) block.id
+    none_by (Some block) NoBlock = refl
+    none_by (Some block) Undecodable = refl
+    none_by (Some block) Unread = refl
+
+    stays : inbound.drained ≡ true → opened_after (told_of (outside_of untaken) inbound) (Came noted) ≡ ids_of inbound.rows
+    stays drained =
+        ap (λ x. if x then noted.frame.id ∷ ids_of inbound.rows else ids_of inbound.rows)
+        (ap (λ d. opens_by d (ids_of inbound.rows) (completed_in inbound.block noted.frame) noted.note) drained ∙ none_by (completed_in inbound.block noted.frame) noted.note)
+
     chosen : (b : Bool) (last : ℕ) → (if b then goaway last no_error ∷ [] else []) ≡ goaway_frames (if b then Some last else None)
     chosen true last = refl
     chosen false last = refl
 
-    by_ids : (ids : List ℕ) → ids_of rows ≡ ids
-        → (if nat_lt (length (ids_of inbound.rows)) most_streams && length ids == most_streams then goaway (highest_in ids) no_error ∷ [] else []) ≡ goaway_frames (goaway_behind (length inbound.rows) rows)
-    by_ids ids is =
+    by_ids : (drained : Bool) (ids : List ℕ) → ids_of rows ≡ ids → (drained ≡ true → ids ≡ ids_of inbound.rows)
+        → (if not drained && nat_lt (length (ids_of inbound.rows)) most_streams && (drained || length ids == most_streams) then goaway (highest_in ids) no_error ∷ [] else []) ≡ goaway_frames (goaway_behind (length inbound.rows) rows)
+    by_ids true ids is stays =
+        let same : length rows ≡ length inbound.rows = length_ids rows ∙ ap length (is ∙ stays refl) ∙ sym (length_ids inbound.rows) in
+        sym (ap (λ x. goaway_frames (if x then Some (highest_in (ids_of rows)) else None)) (ap (λ n. nat_lt (length inbound.rows) most_streams && n == most_streams) same ∙ below_or_same (length inbound.rows) most_streams))
+    by_ids false ids is stays =
         ap (λ (os : List ℕ). if nat_lt (length (ids_of inbound.rows)) most_streams && length os == most_streams then goaway (highest_in os) no_error ∷ [] else []) (sym is)
         ∙ ap (λ n. if nat_lt n most_streams && length (ids_of rows) == most_streams then goaway (highest_in (ids_of rows)) no_error ∷ [] else []) (sym (length_ids inbound.rows))
         ∙ ap (λ n. if nat_lt (length inbound.rows) most_streams && n == most_streams then goaway (highest_in (ids_of rows)) no_error ∷ [] else []) (sym (length_ids rows))
@@ -147,9 +166,9 @@ module _ (setup : Setup) (old : View) (rest : IsAtRest old) (run : List Move) (s
   led = record { knows = known_so setup (conducts run); answered = leads.so (known_of setup (conducts run)) refl (known_so setup (conducts run)); stands = leads.stands }
 
   -- a stream that may be opened is above all of which one is kept
-  pub above_all : (id : ℕ) → may_open (ids_of old.inbound.rows) id ≡ true → is_above_all id old.offers.kept ≡ true
+  pub above_all : (id : ℕ) → may_open old.inbound.drained (ids_of old.inbound.rows) id ≡ true → is_above_all id old.offers.kept ≡ true
   above_all id may =
-      let first = and_parts (id % 2 == 1 && list_all (λ other. nat_lt other id) (ids_of old.inbound.rows)) (nat_lt (length (ids_of old.inbound.rows)) most_streams) may in
+      let first = and_parts (id % 2 == 1 && list_all (λ other. nat_lt other id) (ids_of old.inbound.rows)) (not old.inbound.drained && nat_lt (length (ids_of old.inbound.rows)) most_streams) may in
       let above = and_parts (id % 2 == 1) (list_all (λ other. nat_lt other id) (ids_of old.inbound.rows)) first.0 in
       above_kept id (λ other. not (is_over_in (find old.inbound.rows other))) (ids_of old.inbound.rows) old.offers.kept
       (ap (λ (o : theory_responses.State). map (λ (k : Kept). k.id) o.kept) (sym leads.keeps.offers) ∙ boxes (known_of setup (conducts run)) run s led ∙ ap (λ (b : Book). reverse (active_in (summary_in b))) leads.keeps.book)

@@ -146,7 +146,7 @@ module _ (setup : Setup) (old : View) (rest : IsAtRest old) (noted : Noted) (nex
         ∙ ap (λ b. record (offers_if b id old.offers) { kept = theory_responses.change id (theory_responses.answered cause) (offers_if b id old.offers).kept }) (sym active)) outputs
 
     -- The stream is reset, behind the GOAWAY.
-    pub brings_reset : (last : Option ℕ) (code : ℕ) → owes_in setup false (told_of (outside_of old.untaken) old.inbound) (Came noted) ≡ goaway_frames last ++ rst_stream id code ∷ [] → may_open (ids_of behind.rows) id ≡ false → id < 2147483648 → nat_lt most_untaken (with_goaway last old).untaken ≡ false
+    pub brings_reset : (last : Option ℕ) (code : ℕ) → owes_in setup false (told_of (outside_of old.untaken) old.inbound) (Came noted) ≡ goaway_frames last ++ rst_stream id code ∷ [] → may_open behind.drained (ids_of behind.rows) id ≡ false → id < 2147483648 → nat_lt most_untaken (with_goaway last old).untaken ≡ false
         → (outputs : List Output)
         → Brings setup old balanced outputs (Came noted) (record (forgotten id (record old { inbound = record behind { rows = changed id (Over true) behind.rows } })) { untaken = (with_goaway last old).untaken + length (spell (rst_stream id code)) }) (record balanced { shared = waiting_for id old }) (put (put_goaway last outputs) (ToClient (spell (rst_stream id code))))
     brings_reset last code owes known small free outputs =
@@ -249,8 +249,8 @@ module _ (setup : Setup) (old : View) (rest : IsAtRest old) (noted : Noted) (nex
       by (Some block) false Unread right so none some = absurd (let no : false ≡ true = so refl in cc)
 
   -- Its stream can't be opened any more behind it.
-  pub not_to_open : (fault : Fault) → fault_in (told_of (outside_of old.untaken) old.inbound) (Came noted) ≡ Some fault → may_open (ids_of behind.rows) id ≡ false
-  not_to_open fault is = by (opens_by (ids_of old.inbound.rows) (completed_in old.inbound.block noted.frame) noted.note) refl
+  pub not_to_open : (fault : Fault) → fault_in (told_of (outside_of old.untaken) old.inbound) (Came noted) ≡ Some fault → may_open behind.drained (ids_of behind.rows) id ≡ false
+  not_to_open fault is = by (opens_by old.inbound.drained (ids_of old.inbound.rows) (completed_in old.inbound.block noted.frame) noted.note) refl
     where
       rows_changed : List Row
       rows_changed = Rattle.std.specs.Prelude.map (Rattle.theory_errors.specs.Rows.row_behind setup false (told_of (outside_of old.untaken) old.inbound) (Came noted)) old.inbound.rows
@@ -258,16 +258,16 @@ module _ (setup : Setup) (old : View) (rest : IsAtRest old) (noted : Noted) (nex
       front : Row
       front = Rattle.theory_errors.specs.Rows.row_opened setup false (told_of (outside_of old.untaken) old.inbound) (Came noted) id
 
-      none_again : (b : Bool) → may_open (id ∷ ids_of rows_changed) id ≡ b → may_open (id ∷ ids_of rows_changed) id ≡ false
+      none_again : (b : Bool) → may_open behind.drained (id ∷ ids_of rows_changed) id ≡ b → may_open behind.drained (id ∷ ids_of rows_changed) id ≡ false
       none_again false e = e
-      none_again true e = absurd (let no : true ≡ false = sym (ap (λ b. b || list_any (λ other. other == id) (ids_of rows_changed)) (eq-eqb id id refl)) ∙ not_opened (id ∷ ids_of rows_changed) id e in cc)
+      none_again true e = absurd (let no : true ≡ false = sym (ap (λ b. b || list_any (λ other. other == id) (ids_of rows_changed)) (eq-eqb id id refl)) ∙ not_opened behind.drained (id ∷ ids_of rows_changed) id e in cc)
 
-      none_yet : opens_by (ids_of old.inbound.rows) (completed_in old.inbound.block noted.frame) noted.note ≡ false → (b : Bool) → may_open (ids_of old.inbound.rows) id ≡ b → may_open (ids_of old.inbound.rows) id ≡ false
+      none_yet : opens_by old.inbound.drained (ids_of old.inbound.rows) (completed_in old.inbound.block noted.frame) noted.note ≡ false → (b : Bool) → may_open old.inbound.drained (ids_of old.inbound.rows) id ≡ b → may_open old.inbound.drained (ids_of old.inbound.rows) id ≡ false
       none_yet closed false e = e
       none_yet closed true e =
           let idle = idle_frame_is (told_of (outside_of old.untaken) old.inbound) noted (find old.inbound.rows id).outline e closed mild says_so in
           absurd (let no : None ≡ Some fault = sym idle.no_fault ∙ is in cc)
 
-      by : (b : Bool) → opens_by (ids_of old.inbound.rows) (completed_in old.inbound.block noted.frame) noted.note ≡ b → may_open (ids_of (if b then front ∷ rows_changed else rows_changed)) id ≡ false
-      by true e = none_again (may_open (id ∷ ids_of rows_changed) id) refl
-      by false e = ap (λ (ids : List ℕ). may_open ids id) (ids_changed setup false (told_of (outside_of old.untaken) old.inbound) (Came noted) old.inbound.rows) ∙ none_yet e (may_open (ids_of old.inbound.rows) id) refl
+      by : (b : Bool) → opens_by old.inbound.drained (ids_of old.inbound.rows) (completed_in old.inbound.block noted.frame) noted.note ≡ b → may_open behind.drained (ids_of (if b then front ∷ rows_changed else rows_changed)) id ≡ false
+      by true e = none_again (may_open behind.drained (id ∷ ids_of rows_changed) id) refl
+      by false e = ap (λ (ids : List ℕ). may_open behind.drained ids id) (ids_changed setup false (told_of (outside_of old.untaken) old.inbound) (Came noted) old.inbound.rows) ∙ none_yet e (may_open old.inbound.drained (ids_of old.inbound.rows) id) refl

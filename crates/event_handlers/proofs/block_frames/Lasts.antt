@@ -35,9 +35,9 @@ module _ (s : Summary) (noted : Noted) (faultless : fault_in s (Came noted) ≡ 
   -- The GOAWAY is owed, so not too many octets are untaken.
   pub goaway_free : (last : Option ℕ) → last_goaway_in s (Came noted) ≡ goaway_frames last → is_some last ≡ true → is_crowded_in s ≡ false
   goaway_free None owed some = absurd (let no : false ≡ true = some in cc)
-  goaway_free (Some last) owed some = by (are_last s (opened_with s noted)) refl (is_crowded_in s) refl
+  goaway_free (Some last) owed some = by (are_last s s.drained (opened_with s noted)) refl (is_crowded_in s) refl
     where
-      by : (a : Bool) → are_last s (opened_with s noted) ≡ a → (b : Bool) → is_crowded_in s ≡ b → is_crowded_in s ≡ false
+      by : (a : Bool) → are_last s s.drained (opened_with s noted) ≡ a → (b : Bool) → is_crowded_in s ≡ b → is_crowded_in s ≡ false
       by a is false free = free
       by false is true crowded = absurd (
           let no : [] ≡ goaway last no_error ∷ [] = ap (λ c. if c then goaway (highest_in (opened_with s noted)) no_error ∷ [] else []) (sym is) ∙ owed in
@@ -46,7 +46,7 @@ module _ (s : Summary) (noted : Noted) (faultless : fault_in s (Came noted) ≡ 
       by true is true crowded = absurd (
           let no : Some (Stream enhance_your_calm) ≡ None =
           ap (λ c. fault_if (c && true) (Stream enhance_your_calm)) (sym is)
-          ∙ ap (λ c. fault_if (are_last s (opened_with s noted) && c) (Stream enhance_your_calm)) (sym crowded)
+          ∙ ap (λ c. fault_if (are_last s s.drained (opened_with s noted) && c) (Stream enhance_your_calm)) (sym crowded)
           ∙ row_none in
           cc
           )

@@ -101,7 +101,7 @@ module _ (setup : Setup) (old : View) (rest : IsAtRest old) (frame : Frame) (mid
     -- ---- no stream is opened but the frame's
 
     pub opened_so : (rows : List Row) → ids_of rows ≡ ids_of behind.rows → (other : ℕ) → has rows other ≡ true → (has old.inbound.rows other ≡ true) ⊎ (id ≡ other)
-    opened_so rows same other there = by (opens_by (ids_of old.inbound.rows) (completed_in old.inbound.block frame) is.note) (ap (λ (ids : List ℕ). Rattle.std.specs.List.list_any (λ n. n == other) ids) (sym (same ∙ ids_behind setup (book_of (outside_of old.untaken) old.inbound) noted kept)) ∙ there)
+    opened_so rows same other there = by (opens_by old.inbound.drained (ids_of old.inbound.rows) (completed_in old.inbound.block frame) is.note) (ap (λ (ids : List ℕ). Rattle.std.specs.List.list_any (λ n. n == other) ids) (sym (same ∙ ids_behind setup (book_of (outside_of old.untaken) old.inbound) noted kept)) ∙ there)
       where
         by : (b : Bool) → Rattle.std.specs.List.list_any (λ n. n == other) (if b then id ∷ ids_of old.inbound.rows else ids_of old.inbound.rows) ≡ true → (has old.inbound.rows other ≡ true) ⊎ (id ≡ other)
         by false e = inl e

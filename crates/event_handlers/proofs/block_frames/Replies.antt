@@ -114,12 +114,12 @@ module _ (setup : Setup) (old : View) (rest : IsAtRest old) (frame : Frame) (mid
   none_gained = whole_addition setup book noted of few_rows is.judged.faultless says.0 says.2 says.1 says.3 (judged.Answered why) says.4
 
   -- its stream was opened
-  known : may_open (ids_of behind.rows) id ≡ false
-  known = by (may_open (ids_of behind.rows) id) refl
+  known : may_open behind.drained (ids_of behind.rows) id ≡ false
+  known = by (may_open behind.drained (ids_of behind.rows) id) refl
     where
-      by : (b : Bool) → may_open (ids_of behind.rows) id ≡ b → may_open (ids_of behind.rows) id ≡ false
+      by : (b : Bool) → may_open behind.drained (ids_of behind.rows) id ≡ b → may_open behind.drained (ids_of behind.rows) id ≡ false
       by false e = e
-      by true e = absurd (let no : true ≡ false = sym (and_parts (has behind.rows id) (not (is_over_in (find behind.rows id))) live).0 ∙ not_opened (ids_of behind.rows) id e in cc)
+      by true e = absurd (let no : true ≡ false = sym (and_parts (has behind.rows id) (not (is_over_in (find behind.rows id))) live).0 ∙ not_opened behind.drained (ids_of behind.rows) id e in cc)
 
   offered : goaway_frames last ++ reset_for id (find old.inbound.rows id).head_out None (Some cause) ≡ goaway_frames last → ((find old.inbound.rows id).head_out ≡ false) ⊎ (reset_code cause ≡ None)
       → (result : BlockTaken) (new : View) (put_out : List Output) → IsOffered id cause last (record old { inbound = mid }) outputs result new put_out → IsBlockTaken setup old outputs frame result new put_out

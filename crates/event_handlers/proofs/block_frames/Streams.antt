@@ -37,7 +37,7 @@ use Rattle.refinement.proofs.Gaining.{stands, unended_with_block}
 use Rattle.refinement.proofs.Answered.{idle_unended}
 
 -- a stream on which HEADERS is no fault was opened, or may be
-has_or_opens : (s : Summary) (id n : ℕ) (found : Standing) → Tells s.stream s.opened id found → fault_of (verdict n found headers_kind) ≡ None → (id == 0) ≡ false → (list_any (λ other. other == id) s.opened ≡ true) ⊎ (may_open s.opened id ≡ true)
+has_or_opens : (s : Summary) (id n : ℕ) (found : Standing) → Tells s.drained s.stream s.opened id found → fault_of (verdict n found headers_kind) ≡ None → (id == 0) ≡ false → (list_any (λ other. other == id) s.opened ≡ true) ⊎ (may_open s.drained s.opened id ≡ true)
 has_or_opens s id n (Opened state) tells passes some = inl tells.0
 has_or_opens s id n Idle tells passes some = inr tells
 has_or_opens s id n WholeConnection tells passes some = absurd (let no : true ≡ false = sym tells ∙ some in cc)
@@ -56,7 +56,7 @@ module _ (setup : Setup) (book : Book) (noted : Noted) (kept : AreKept book.rows
   now = (book_after setup false book (Came noted)).rows
 
   abbrev opens : Bool
-  opens = opens_by (ids_of book.rows) (completed_in book.block noted.frame) noted.note
+  opens = opens_by book.drained (ids_of book.rows) (completed_in book.block noted.frame) noted.note
 
   abbrev changed : List Row
   changed = map (row_behind setup false s (Came noted)) book.rows
@@ -72,11 +72,11 @@ module _ (setup : Setup) (book : Book) (noted : Noted) (kept : AreKept book.rows
   has_changed = ap (λ (ids : List ℕ). list_any (λ other. other == id) ids) (ids_changed setup false s (Came noted) book.rows)
 
   -- A stream that is active behind the frame, and wasn't before, may be opened.
-  pub may_be_opened : is_active book.rows id ≡ false → is_active now id ≡ true → may_open (ids_of book.rows) id ≡ true
+  pub may_be_opened : is_active book.rows id ≡ false → is_active now id ≡ true → may_open book.drained (ids_of book.rows) id ≡ true
   may_be_opened was is = by opens refl
     where
-      by : (b : Bool) → opens ≡ b → may_open (ids_of book.rows) id ≡ true
-      by true it = opens_own (ids_of book.rows) book.block noted.frame noted.note it
+      by : (b : Bool) → opens ≡ b → may_open book.drained (ids_of book.rows) id ≡ true
+      by true it = opens_own book.drained (ids_of book.rows) book.block noted.frame noted.note it
       by false none = absurd (let no : true ≡ false = sym (and_from (has book.rows id) (not (is_over_in (find book.rows id))) there (ap not on)) ∙ was in cc)
         where
           parts : (has changed id ≡ true) × (not (is_over_in (find changed id)) ≡ true)
@@ -122,7 +122,7 @@ module _ (setup : Setup) (book : Book) (noted : Noted) (kept : AreKept book.rows
           let front : find now id ≡ kept_in (slot_of (kept_behind setup false s (Came noted) id fresh)) =
           ap (λ b. find (if b then row_opened setup false s (Came noted) id ∷ changed else changed) id) it
           ∙ ap (λ b. if b then kept_in (slot_of (kept_behind setup false s (Came noted) id fresh)) else find changed id) (eq-eqb id id refl) in
-          let none : find book.rows id ≡ fresh = find_none book.rows id (not_opened (ids_of book.rows) id (opens_own (ids_of book.rows) book.block noted.frame noted.note it)) in
+          let none : find book.rows id ≡ fresh = find_none book.rows id (not_opened book.drained (ids_of book.rows) id (opens_own book.drained (ids_of book.rows) book.block noted.frame noted.note it)) in
           front ∙ alike (kept_behind setup false s (Came noted) id fresh) (ap is_over_in (sym front) ∙ flipped (is_over_in (find now id)) parts.1)
           ∙ ap (λ (k : Kept). kept_behind setup false s (Came noted) id k) (sym none)
 
@@ -152,12 +152,12 @@ module _ (setup : Setup) (book : Book) (noted : Noted) (kept : AreKept book.rows
   module _ (few : length (ids_of book.rows) ≤ most_streams) (faultless : fault_in s (Came noted) ≡ None) (block : Partial) (is_block : completed_in book.block noted.frame ≡ Some block) (fields : List Field) (note : noted.note ≡ Fields fields) (of_stream : (id == 0) ≡ false) (no_reset : (noted.frame.kind == rst_stream_kind) ≡ false) where
     -- the client hadn't ended the stream
     pub unended : (find book.rows id).ended_by_client ≡ false
-    unended = unended_with_block s noted few faultless (idle_unended book.rows id) block is_block
+    unended = unended_with_block s noted few faultless (idle_unended book.drained book.rows id) block is_block
 
-    where_it_stands : (has book.rows id ≡ true) ⊎ (may_open (ids_of book.rows) id ≡ true)
+    where_it_stands : (has book.rows id ≡ true) ⊎ (may_open book.drained (ids_of book.rows) id ≡ true)
     where_it_stands =
-        has_or_opens s id (length (active_in s)) (standing_in s id) (standing_tells s.stream s.opened id few)
-        (ap (λ (b : Option Partial). fault_on_in s id (judged b noted.frame)) (sym is_block) ∙ stands s noted few faultless (idle_unended book.rows id)) of_stream
+        has_or_opens s id (length (active_in s)) (standing_in s id) (standing_tells s.drained s.stream s.opened id few)
+        (ap (λ (b : Option Partial). fault_on_in s id (judged b noted.frame)) (sym is_block) ∙ stands s noted few faultless (idle_unended book.drained book.rows id)) of_stream
 
     module _ (not_half : is_over_in (find book.rows id) ≡ false → (find book.rows id).ended_by_gateway ≡ false) where
       old_stays : has book.rows id ≡ true → is_active now id ≡ true
@@ -170,7 +170,7 @@ module _ (setup : Setup) (book : Book) (noted : Noted) (kept : AreKept book.rows
             where
               by : (b : Bool) → opens ≡ b → opens ≡ false
               by false e = e
-              by true e = absurd (let no : true ≡ false = sym there ∙ not_opened (ids_of book.rows) id (opens_own (ids_of book.rows) book.block noted.frame noted.note e) in cc)
+              by true e = absurd (let no : true ≡ false = sym there ∙ not_opened book.drained (ids_of book.rows) id (opens_own book.drained (ids_of book.rows) book.block noted.frame noted.note e) in cc)
 
           was : is_over_in (find book.rows id) ≡ false
           was = live_if book.rows kept there unended
@@ -189,18 +189,18 @@ module _ (setup : Setup) (book : Book) (noted : Noted) (kept : AreKept book.rows
               ∙ ap (λ b. goes.ended_by_client && b) (not_half was)
               ∙ neither goes.ended_by_client
 
-      new_stays : may_open (ids_of book.rows) id ≡ true → is_active now id ≡ true
-      new_stays may = theory.lives setup beside noted (and_from (not (has book.rows id)) (has now id) (ap not (not_opened (ids_of book.rows) id may)) there)
+      new_stays : may_open book.drained (ids_of book.rows) id ≡ true → is_active now id ≡ true
+      new_stays may = theory.lives setup beside noted (and_from (not (has book.rows id)) (has now id) (ap not (not_opened book.drained (ids_of book.rows) id may)) there)
         where
           -- a state with this book
           beside : State
-          beside = record { ledger = record { book = book; queue = [] }; offers = theory_responses.start; requests = theory_requests.start; tables = theory_header_tables.start setup.policy; windows = theory_receive_windows.kept_of theory_receive_windows.start }
+          beside = record { ledger = record { book = book; queue = [] }; offers = theory_responses.start; requests = theory_requests.start; tables = theory_header_tables.start setup.policy; windows = theory_receive_windows.kept_of (theory_receive_windows.start setup.more_room) }
 
           it_opens : opens ≡ true
           it_opens =
-              ap (λ (b : Option Partial). opens_by (ids_of book.rows) b noted.note) is_block
-              ∙ ap (λ (n : Note). opens_by (ids_of book.rows) (Some block) n) note
-              ∙ ap (λ n. may_open (ids_of book.rows) n) (completed_own book.block noted.frame block is_block)
+              ap (λ (b : Option Partial). opens_by book.drained (ids_of book.rows) b noted.note) is_block
+              ∙ ap (λ (n : Note). opens_by book.drained (ids_of book.rows) (Some block) n) note
+              ∙ ap (λ n. may_open book.drained (ids_of book.rows) n) (completed_own book.block noted.frame block is_block)
               ∙ may
 
           there : has now id ≡ true
@@ -236,9 +236,9 @@ some_active q id (n ∷ ids) there is = by (n == id) refl there (some_active q i
 pub goes_on_with : (s : Summary) (id : ℕ) → s.ends ≡ false → (list_any (λ other. other == id) s.opened && not (is_over_in (s.stream id))) ≡ true → must_end_in s ≡ false
 goes_on_with s id none active =
     let parts = and_parts (list_any (λ other. other == id) s.opened) (not (is_over_in (s.stream id))) active in
-    ap (λ b. b || length s.opened == most_streams && length (active_in s) == 0) none
-    ∙ ap (λ b. (length s.opened == most_streams) && b) (some_active (λ other. not (is_over_in (s.stream other))) id s.opened parts.0 parts.1)
-    ∙ neither (length s.opened == most_streams)
+    ap (λ b. b || (s.drained || length s.opened == most_streams) && length (active_in s) == 0) none
+    ∙ ap (λ b. (s.drained || length s.opened == most_streams) && b) (some_active (λ other. not (is_over_in (s.stream other))) id s.opened parts.0 parts.1)
+    ∙ neither (s.drained || length s.opened == most_streams)
   where
     neither : (b : Bool) → (b && false) ≡ false
     neither true = refl

@@ -196,7 +196,7 @@ module _ (setup : Setup) (run : List Move) (kept : View) (s : State) (fresh back
   ends_told = ap (λ (b : Book). must_end_in (summary_in b)) leads.keeps.book ∙ ends
 
   none_active : active_in (told_by s) ≡ []
-  none_active = none_of (active_in (told_by s)) (eqb-true (length (active_in (told_by s))) 0 (last_of (told_by s).ends (length (told_by s).opened == most_streams) (length (active_in (told_by s)) == 0) leads.stands.goes_on ends_told))
+  none_active = none_of (active_in (told_by s)) (eqb-true (length (active_in (told_by s))) 0 (last_of (told_by s).ends ((told_by s).drained || length (told_by s).opened == most_streams) (length (active_in (told_by s)) == 0) leads.stands.goes_on ends_told))
 
   led : IsLed known run s
   led = record { knows = known_so setup (conducts run); answered = leads.so known refl (known_so setup (conducts run)); stands = leads.stands }

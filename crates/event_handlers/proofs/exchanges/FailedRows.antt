@@ -90,10 +90,10 @@ not_above id (x ∷ xs) is = one (x == id) refl is (not_above id xs)
     one true same has_it rest = ap (λ b. b && list_all (λ other. nat_lt other id) xs) (ap (λ n. nat_lt n id) (eqb-true x id same) ∙ not_below_itself id)
     one false apart has_it rest = ap (λ b. nat_lt x id && b) (rest has_it) ∙ and_false (nat_lt x id)
 
-pub opened_once : (ids : List ℕ) (id : ℕ) → list_any (λ other. other == id) ids ≡ true → may_open ids id ≡ false
-opened_once ids id there =
+pub opened_once : (drained : Bool) (ids : List ℕ) (id : ℕ) → list_any (λ other. other == id) ids ≡ true → may_open drained ids id ≡ false
+opened_once drained ids id there =
     let above : list_all (λ other. nat_lt other id) ids ≡ false = not_above id ids there in
-    by (id % 2 == 1) (list_all (λ other. nat_lt other id) ids) (nat_lt (length ids) most_streams) above
+    by (id % 2 == 1) (list_all (λ other. nat_lt other id) ids) (not drained && nat_lt (length ids) most_streams) above
   where
     by : (a b c : Bool) → b ≡ false → (a && b && c) ≡ false
     by true true c is = let no : true ≡ false = is in cc

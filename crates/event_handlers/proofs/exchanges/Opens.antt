@@ -206,7 +206,7 @@ module _ (setup : Setup) (kept : View) (fresh_octets back stream route : ℕ) (t
     may_open : requests.MayOpen s.requests number route
     may_open = record { stream = stream; text = text; stage = stage; due = due_is; next = ap suc (sym count_is) }
 
-    rooms : Receiving setup.passing t (rooms_in (told_by s) s)
+    rooms : Receiving setup.more_room setup.passing t (rooms_in (told_by s) s)
     rooms = windows_here setup run s leads.stands leads.so
 
     active_here : is_active (told_by s).last t ≡ true
@@ -220,7 +220,7 @@ module _ (setup : Setup) (kept : View) (fresh_octets back stream route : ℕ) (t
 
     window : windows.MayOpen (rooms_in (told_by s) s) number
     window = record {
-      active = live_among setup.passing t (rooms_in (told_by s) s) (told_by s).last rooms.keeping ∙ active_here;
+      active = live_among setup.more_room setup.passing t (rooms_in (told_by s) s) (told_by s).last rooms.keeping ∙ active_here;
       counted = omega arith;
       first =
           (rooms.keeping.streams (told_by s).last active_here).connection
@@ -308,7 +308,7 @@ module _ (setup : Setup) (kept : View) (fresh_octets back stream route : ℕ) (t
         by : (o : Option Side) → find_side (newest_in s number) kept.marks ≡ o → o ≡ None
         by None found = refl
         by (Some side) found =
-            let on : is_active 0 t ≡ true = sym (live_among setup.passing t windows_before 0 rooms.keeping) ∙ leads.marked.stand.live 0 side (ap (λ n. find_side n kept.marks) (sym ungiven) ∙ found) in
+            let on : is_active 0 t ≡ true = sym (live_among setup.more_room setup.passing t windows_before 0 rooms.keeping) ∙ leads.marked.stand.live 0 side (ap (λ n. find_side n kept.marks) (sym ungiven) ∙ found) in
             absurd (active_some 0 t on refl)
 
     marked_by : (p : Way) → setup.passing ≡ p → AreMarked setup.passing (newest_with number windows_before.stream (newest_in s)) (with_opened p stream number kept.marks) (theory_receive_windows.with_act windows_before (Open number route))

@@ -91,8 +91,8 @@ pays_reset setup v stream there few free outputs run s leads =
     reset_is : reset_view (replied_to stream v) stream internal_error ≡ reset_behind stream (replied_to stream v)
     reset_is = ap (λ (hs : List Held). record (reset_behind stream (replied_to stream v)) { upstreams = record v.upstreams { held = hs } }) (without_twice stream v.upstreams.held)
 
-    not_to_open : may_open (rows.ids_of (replied_to stream v).inbound.rows) stream ≡ false
-    not_to_open = failing.opened_once (rows.ids_of (replied_to stream v).inbound.rows) stream (has_same stream stream _ v.inbound.rows ∙ there)
+    not_to_open : may_open v.inbound.drained (rows.ids_of (replied_to stream v).inbound.rows) stream ≡ false
+    not_to_open = failing.opened_once v.inbound.drained (rows.ids_of (replied_to stream v).inbound.rows) stream (has_same stream stream _ v.inbound.rows ∙ there)
 
 module _ (setup : Setup) (kept : View) (rest : IsAtRest kept) (run : List Move) (s : State) (leads : Leads setup run kept balanced s) (k : ℕ) (c : Connection) (found : find number_of k kept.upstreams.live ≡ Some c) (working : is_idle c.live.answer ≡ false) where
   abbrev stream : ℕ

@@ -100,7 +100,7 @@ module _ (setup : Setup) (run : List Move) (s : State) (u : View) (id : ℕ) (sm
   reset_it on waits free =
       subst (λ a. PerformsOwn setup v (owing (rst_stream id no_error ∷ []) 0) put_out (forgotten id (if a then reset_gone id no_error v else v)) (record balanced { shared = waiting_for id u }) (if a then put put_out (ToClient (spell (rst_stream id no_error))) else put_out)) (sym on)
       (subst (λ n. PerformsOwn setup v (owing (rst_stream id no_error ∷ []) 0) put_out (reset_view v id no_error) (record balanced { shared = n }) (put put_out (ToClient (spell (rst_stream id no_error))))) (none_plus (waiting_for id v) ∙ waits)
-      (reset_paid setup v (owing (rst_stream id no_error ∷ []) 0) [] id no_error refl refl (active_closed v.inbound.rows id on) reset_fits free put_out))
+      (reset_paid setup v (owing (rst_stream id no_error ∷ []) 0) [] id no_error refl refl (active_closed v.inbound.drained v.inbound.rows id on) reset_fits free put_out))
 
   -- What is kept and put out in the end.
   pub ends_gone : (ends : Bool) → IsGone setup run s u id ends v outputs put_out → (ends ≡ true → is_active v.inbound.rows id ≡ true → nat_lt most_untaken v.untaken ≡ false)

@@ -103,7 +103,7 @@ and_no false b off = refl
 pub not_to_end : (u : View) (begun : Option Partial) (given : List Opened) (id : ℕ) → is_active u.inbound.rows id ≡ true → must_end_in (summary_in (book_at u begun given)) ≡ false
 not_to_end u begun given id on =
     let parts = and_parts (has u.inbound.rows id) (not (is_over_in (find u.inbound.rows id))) on in
-    and_no (length (ids_of u.inbound.rows) == most_streams) (length (filter (λ n. not (is_over_in (find u.inbound.rows n))) (ids_of u.inbound.rows)) == 0)
+    and_no (u.inbound.drained || length (ids_of u.inbound.rows) == most_streams) (length (filter (λ n. not (is_over_in (find u.inbound.rows n))) (ids_of u.inbound.rows)) == 0)
     (some_active (λ n. not (is_over_in (find u.inbound.rows n))) id parts.1 (ids_of u.inbound.rows) parts.0)
 
 -- ---- fragments
@@ -144,7 +144,7 @@ module _ (setup : Setup) (run : List Move) (u : View) (begun : Option Partial) (
     passing = passing;
     no_update = no_update;
     rightly = rightly;
-    not_to_open = active_closed u.inbound.rows noted.frame.id may.active;
+    not_to_open = active_closed u.inbound.drained u.inbound.rows noted.frame.id may.active;
     in_turn = λ begins. record { none_cut = may.none_cut; turn = may.turn };
     table = gives;
   }

@@ -3,10 +3,11 @@ use Rattle.std.proofs.Common.{◌≡◌, ℕ, ◌+◌, ◌≤◌, Bool, true, fa
 use Rattle.std.specs.Prelude.{ℤ, pos, ◌+ℤ◌, ◌-ℤ◌, ◌≤ℤ◌, sum_by}
 use Rattle.std.proofs.lemmas.Bool.{eq-eqb, eqb-true}
 use Rattle.std.proofs.lemmas.Int.{ints}
-use Rattle.model.specs.Setup.{Setup}
+use Rattle.model.specs.Setup.{Setup, own_window}
 use Rattle.model.specs.Known.{Known}
 use Rattle.model.specs.Lifetimes as lives
-use Rattle.model.specs.Limits.{first_window, greatest_window}
+use Rattle.model.specs.Limits.{greatest_window}
+use Rattle.model.specs.WindowsOnTape.{back_on}
 use Rattle.theory_errors.specs.Summary.{Stream as Kept, Summary, summary_of}
 use Rattle.theory_errors.specs.Rows as rows
 use Rattle.theory_errors.specs.Rows.{Row}
@@ -31,8 +32,16 @@ use Rattle.refinement.proofs.Staying.{rows_kept}
 use Rattle.refinement.proofs.Where.{windows_here}
 
 -- octets that are among what is missing in a window fit in it
-fit_again : (room : ℤ) (rest count : ℕ) → room ≡ pos first_window -ℤ pos rest → count ≤ rest → (room +ℤ pos count) ≤ℤ pos greatest_window
-fit_again room rest count is le = omega (arith, ints, is, le)
+fit_again : (own : ℕ) (room : ℤ) (rest count : ℕ) → room ≡ pos own -ℤ pos rest → count ≤ rest → (room +ℤ pos count) ≤ℤ pos own
+fit_again own room rest count is le = omega (arith, ints, is, le)
+
+-- those that are among what is missing of what a window began with
+fit_below : (back : ℤ) (rest count : ℕ) → back ≡ pos 0 -ℤ pos rest → count ≤ rest → (back +ℤ pos count) ≤ℤ pos greatest_window
+fit_below back rest count is le = omega (arith, ints, is, le)
+
+-- what is missing of a window is what didn't go back
+missing : (own : ℕ) (back : ℤ) (rest : ℕ) → (pos own +ℤ back) ≡ pos own -ℤ pos rest → back ≡ pos 0 -ℤ pos rest
+missing own back rest is = omega (arith, ints, is)
 
 among : (a c d n m count : ℕ) → c ≡ n → d ≡ m → count ≡ n + m → count ≤ a + c + d
 among a c d n m count first second all = omega (arith, first, second, all)
@@ -51,7 +60,7 @@ module _ (setup : Setup) (run : List Move) (kept : View) (pending : Pending) (s 
   abbrev at : theory_receive_windows.State
   at = rooms_in (told_by s) s
 
-  receives : Receiving setup.passing (tape_of run) at
+  receives : Receiving setup.more_room setup.passing (tape_of run) at
   receives = windows_here setup run s leads.stands leads.so
 
   stream_is : at.stream ≡ kept.inbound.last
@@ -64,36 +73,43 @@ module _ (setup : Setup) (run : List Move) (kept : View) (pending : Pending) (s 
   same_book : (ledger_of setup (conducts run)).book.rows ≡ kept.inbound.rows
   same_book = ap (λ (x : State). x.ledger.book.rows) leads.stands.is ∙ ap (λ (b : Book). b.rows) leads.keeps.book
 
+  -- receiving windows begin with as much as the setup says
+  pub own_is : kept.inbound.own ≡ own_window setup
+  own_is =
+      ap (λ (b : Book). b.own) (sym leads.keeps.book)
+      ∙ ap (λ (x : State). x.ledger.book.own) (sym leads.stands.is)
+      ∙ ap (λ (u : Summary). u.own) told.same
+
   -- The octets that came, and those that are to go back, may go back on the connection.
-  pub fits_shared : (count : ℕ) → count ≡ pending.fresh + pending.shared → (kept.inbound.room +ℤ pos count) ≤ℤ pos greatest_window
+  pub fits_shared : (count : ℕ) → count ≡ pending.fresh + pending.shared → (kept.inbound.room +ℤ pos count) ≤ℤ pos kept.inbound.own
   fits_shared count all =
-      fit_again kept.inbound.room (sum_by (held at) at.live + at.count + at.debt) count
+      subst (λ n. (kept.inbound.room +ℤ pos count) ≤ℤ pos n) (sym own_is) (fit_again (own_window setup) kept.inbound.room (sum_by (held at) at.live + at.count + at.debt) count
       (ap (λ (b : Book). b.room) (sym leads.keeps.book)
       ∙ ap (λ (x : State). x.ledger.book.room) (sym leads.stands.is)
       ∙ ap (λ (u : Summary). u.room) told.same
-      ∙ shared_room setup.passing (tape_of run) at receives)
-      (among (sum_by (held at) at.live) at.count at.debt pending.fresh pending.shared count leads.keeps.credited.fresh leads.keeps.credited.shared all)
+      ∙ shared_room setup.more_room setup.passing (tape_of run) at receives)
+      (among (sum_by (held at) at.live) at.count at.debt pending.fresh pending.shared count leads.keeps.credited.fresh leads.keeps.credited.shared all))
 
   on_tape : (id : ℕ) → is_active kept.inbound.rows id ≡ true → lives.is_active id (tape_of run) ≡ true
   on_tape id live = sym (active_told known (tape_of run) (ledger_of setup (conducts run)).book told id) ∙ ap (λ (rs : List Row). is_active rs id) same_book ∙ live
 
   -- what is missing in the window of an active stream
-  room_is : (id : ℕ) → is_active kept.inbound.rows id ≡ true → (rows.find kept.inbound.rows id).room ≡ pos first_window -ℤ pos (held at id + fresh_of at id + (at.row id).debt)
+  room_is : (id : ℕ) → is_active kept.inbound.rows id ≡ true → (rows.find kept.inbound.rows id).room ≡ pos 0 -ℤ pos (held at id + fresh_of at id + (at.row id).debt)
   room_is id live =
       ap (λ (rs : List Row). (rows.find rs id).room) (sym same_book)
       ∙ ap (λ (k : Kept). k.room) (live_told known (tape_of run) (ledger_of setup (conducts run)).book told id (on_tape id live))
-      ∙ own_room setup.passing (tape_of run) at id receives (on_tape id live)
+      ∙ missing (own_window setup) (back_on id (tape_of run)) (held at id + fresh_of at id + (at.row id).debt) (own_room setup.more_room setup.passing (tape_of run) at id receives (on_tape id live))
 
   -- And on the stream of the last frame those that came with that, while it is active.
   pub fits_own : is_active kept.inbound.rows kept.inbound.last ≡ true → AreReturnable pending.fresh (rows.find kept.inbound.rows kept.inbound.last)
   fits_own live =
-      fit_again (rows.find kept.inbound.rows kept.inbound.last).room (held at kept.inbound.last + fresh_of at kept.inbound.last + (at.row kept.inbound.last).debt) pending.fresh (room_is kept.inbound.last live)
+      fit_below (rows.find kept.inbound.rows kept.inbound.last).room (held at kept.inbound.last + fresh_of at kept.inbound.last + (at.row kept.inbound.last).debt) pending.fresh (room_is kept.inbound.last live)
       (within (held at kept.inbound.last) (fresh_of at kept.inbound.last) (at.row kept.inbound.last).debt pending.fresh (ap (λ b. if b then at.count else 0) (eq-eqb at.stream kept.inbound.last stream_is) ∙ leads.keeps.credited.fresh))
 
   -- So may those that are to go back on a stream.
   pub fits_due : (id : ℕ) → GoBack kept.inbound id → AreReturnable (pending.own id) (rows.find kept.inbound.rows id)
   fits_due id back =
-      fit_again (rows.find kept.inbound.rows id).room (held at id + fresh_of at id + (at.row id).debt) (pending.own id) (room_is id back.active)
+      fit_below (rows.find kept.inbound.rows id).room (held at id + fresh_of at id + (at.row id).debt) (pending.own id) (room_is id back.active)
       (within_debt (held at id) (fresh_of at id) (at.row id).debt (pending.own id) (leads.keeps.credited.own id back))
 
 -- a stream that was opened isn't the connection

@@ -52,7 +52,7 @@ pub record IsGivenBack (kept : View) (inbound : Inbound) (untaken : ℕ) (pendin
   pub book_is : book ≡ book_of (record { given = book.given; untaken = untaken }) inbound
   pub given_same : book.given ≡ s.ledger.book.given
   pub served : (hs : List Held) → AreServed (told_in (told_by s)) hs → AreServed (told_in (summary_in book)) hs
-  pub not_to_open : may_open (told_by s).opened frame.id ≡ false
+  pub not_to_open : may_open (told_by s).drained (told_by s).opened frame.id ≡ false
   pub goes_on : must_end_in (told_by s) ≡ false
   pub rightly : is_rightly_sent_in (told_by s) frame ≡ true
   pub owed : OwesAll (sight_in (told_by s)) (rooms_in (told_by s) s) frame (frame.id == 0)

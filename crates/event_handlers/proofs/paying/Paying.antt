@@ -1,6 +1,6 @@
 -- A control frame that is owed next is sent: this performs.
-use Rattle.std.proofs.Common.{◌≡◌, ℕ, ◌+◌, nat_lt, Bool, true, false, not, ◌&&◌, ◌||◌, ◌==◌, List, [], ◌∷◌, ◌++◌, append-nil, length, Option, Some, None, Result, Ok, Err, OnOk, refl, sym, ◌∙◌, ap, subst, inl, inr, if◌then◌else◌, arith}
-use Rattle.model.specs.Frames.{Frame, Fits, spell, continuation_kind, has_flag, goaway, no_error}
+use Rattle.std.proofs.Common.{◌≡◌, ℕ, ◌+◌, ◌≤◌, nat_lt, Bool, true, false, not, ◌&&◌, ◌||◌, ◌==◌, List, [], ◌∷◌, ◌++◌, append-nil, length, Option, Some, None, Result, Ok, Err, OnOk, refl, sym, ◌∙◌, ap, subst, inl, inr, if◌then◌else◌, arith}
+use Rattle.model.specs.Frames.{Frame, Fits, spell, setting, continuation_kind, has_flag, goaway, no_error}
 use Rattle.model.specs.Logs.{Output}
 use Rattle.model.specs.Logs.Output.{ToClient}
 use Rattle.model.specs.Setup.{Setup}
@@ -106,7 +106,7 @@ module _ (setup : Setup) (kept : View) (pending : Pending) (rest : List Frame) (
           none_begun = none_begun;
           before_due = before_due;
           no_note = refl;
-          not_to_open = ap (λ n. may_open (told_by s).opened n) of_connection;
+          not_to_open = ap (λ n. may_open (told_by s).drained (told_by s).opened n) of_connection;
         };
         front = subst (λ (q : List Frame). q ≡ frame ∷ rest_of q) (sym queue) refl;
         control = no_passing frame control;
@@ -203,7 +203,7 @@ module _ (setup : Setup) (kept : View) (pending : Pending) (rest : List Frame) (
 -- ---- the frames that are control frames
 
 abbrev is_control : (frame : Control) → IsOwed frame → IsControl (frame_of frame)
-is_control control.Settings owed = record { no_data = refl; no_headers = refl; no_reset = refl; no_update = refl; no_continuation = refl }
+is_control (control.Settings more_room) owed = record { no_data = refl; no_headers = refl; no_reset = refl; no_update = refl; no_continuation = refl }
 is_control control.SettingsAck owed = record { no_data = refl; no_headers = refl; no_reset = refl; no_update = refl; no_continuation = refl }
 is_control (control.PingAck octets) owed = record { no_data = refl; no_headers = refl; no_reset = refl; no_update = refl; no_continuation = refl }
 is_control (control.Goaway last code) owed = record { no_data = refl; no_headers = refl; no_reset = refl; no_update = refl; no_continuation = refl }
@@ -211,7 +211,7 @@ is_control (control.Reset stream code) owed = absurd owed
 is_control (control.Update stream octets) owed = absurd owed
 
 on_connection : (frame : Control) → IsOwed frame → (frame_of frame).id ≡ 0
-on_connection control.Settings owed = refl
+on_connection (control.Settings more_room) owed = refl
 on_connection control.SettingsAck owed = refl
 on_connection (control.PingAck octets) owed = refl
 on_connection (control.Goaway last code) owed = refl
@@ -220,15 +220,20 @@ on_connection (control.Update stream octets) owed = absurd owed
 
 -- it doesn't ask the client to be calm
 asks_no_calm : (frame : Control) → IsOwed frame → is_calming (frame_of frame) ≡ false
-asks_no_calm control.Settings owed = refl
+asks_no_calm (control.Settings more_room) owed = refl
 asks_no_calm control.SettingsAck owed = refl
 asks_no_calm (control.PingAck octets) owed = refl
 asks_no_calm (control.Goaway last code) owed = let same : is_calming (goaway last code) ≡ is_calming (goaway last no_error) = ap (λ n. is_calming (goaway last n)) owed in same
 asks_no_calm (control.Reset stream code) owed = absurd owed
 asks_no_calm (control.Update stream octets) owed = absurd owed
 
+-- settings fit in a frame
+settings_fit : (more : ℕ) (b : Bool) → length (setting 3 100 ++ (setting 6 16384 ++ (if b then [] else setting 4 (65535 + more)))) ≤ 16384
+settings_fit more true = omega arith
+settings_fit more false = omega arith
+
 all_fit : (frame : Control) → IsShort frame → Fits (frame_of frame)
-all_fit control.Settings short = record { kind = omega arith; flags = omega arith; id = omega arith; payload = omega arith }
+all_fit (control.Settings more_room) short = record { kind = omega arith; flags = omega arith; id = omega arith; payload = settings_fit more_room (more_room == 0) }
 all_fit control.SettingsAck short = record { kind = omega arith; flags = omega arith; id = omega arith; payload = omega arith }
 all_fit (control.PingAck octets) short = record { kind = omega arith; flags = omega arith; id = omega arith; payload = short }
 all_fit (control.Goaway last code) short = record { kind = omega arith; flags = omega arith; id = omega arith; payload = omega arith }

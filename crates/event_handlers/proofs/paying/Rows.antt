@@ -77,17 +77,17 @@ module _ (rows : List Row) (id count : ℕ) (live : is_active rows id ≡ true) 
   served_stays other = ap (λ b. b && is_none (find given other).outline.cause) (active_stays other) ∙ ap (λ b. is_active rows other && b) (stays (λ k. is_none k.outline.cause) (λ k. refl) other)
 
   -- whether all streams were opened and none is active
-  pub exhausted_stays : (most : ℕ) → (length (ids_of given) == most && length (filter (λ n. not (is_over_in (find given n))) (ids_of given)) == 0) ≡ (length (ids_of rows) == most && length (filter (λ n. not (is_over_in (find rows n))) (ids_of rows)) == 0)
-  exhausted_stays most =
-      ap (λ (ids : List ℕ). length ids == most && length (filter (λ n. not (is_over_in (find given n))) ids) == 0) (same_ids id (slot_of (given_back count (find rows id))) rows)
-      ∙ ap (λ (ids : List ℕ). length (ids_of rows) == most && length ids == 0) (filter_same (λ n. not (is_over_in (find given n))) (λ n. not (is_over_in (find rows n))) (λ n. ap not (stays is_over_in (λ k. refl) n)) (ids_of rows))
+  pub exhausted_stays : (drained : Bool) (most : ℕ) → ((drained || length (ids_of given) == most) && length (filter (λ n. not (is_over_in (find given n))) (ids_of given)) == 0) ≡ ((drained || length (ids_of rows) == most) && length (filter (λ n. not (is_over_in (find rows n))) (ids_of rows)) == 0)
+  exhausted_stays drained most =
+      ap (λ (ids : List ℕ). (drained || length ids == most) && length (filter (λ n. not (is_over_in (find given n))) ids) == 0) (same_ids id (slot_of (given_back count (find rows id))) rows)
+      ∙ ap (λ (ids : List ℕ). (drained || length (ids_of rows) == most) && length ids == 0) (filter_same (λ n. not (is_over_in (find given n))) (λ n. not (is_over_in (find rows n))) (λ n. ap not (stays is_over_in (λ k. refl) n)) (ids_of rows))
 
 -- a stream that was opened isn't to be opened
-pub not_to_open : (ids : List ℕ) (id : ℕ) → list_any (λ other. other == id) ids ≡ true → may_open ids id ≡ false
-not_to_open ids id there = by (may_open ids id) refl
+pub not_to_open : (drained : Bool) (ids : List ℕ) (id : ℕ) → list_any (λ other. other == id) ids ≡ true → may_open drained ids id ≡ false
+not_to_open drained ids id there = by (may_open drained ids id) refl
   where
-    by : (b : Bool) → may_open ids id ≡ b → may_open ids id ≡ false
-    by true may = absurd (let no : false ≡ true = sym (not_opened ids id may) ∙ there in cc)
+    by : (b : Bool) → may_open drained ids id ≡ b → may_open drained ids id ≡ false
+    by true may = absurd (let no : false ≡ true = sym (not_opened drained ids id may) ∙ there in cc)
     by false none = none
 
 -- where a test passes one, some are left
@@ -107,8 +107,8 @@ some_left test (x ∷ ids) id there passes = by (x == id) refl (test x) refl the
 pub active_goes_on : (kept : View) (id : ℕ) → is_active kept.inbound.rows id ≡ true → GoesOn kept
 active_goes_on kept id live =
     let parts = and_parts (has kept.inbound.rows id) (not (is_over_in (find kept.inbound.rows id))) live in
-    ap (λ b. (length (ids_of kept.inbound.rows) == most_streams) && b) (some_left (λ n. not (is_over_in (find kept.inbound.rows n))) (ids_of kept.inbound.rows) id parts.0 parts.1)
-    ∙ none (length (ids_of kept.inbound.rows) == most_streams)
+    ap (λ b. (kept.inbound.drained || length (ids_of kept.inbound.rows) == most_streams) && b) (some_left (λ n. not (is_over_in (find kept.inbound.rows n))) (ids_of kept.inbound.rows) id parts.0 parts.1)
+    ∙ none (kept.inbound.drained || length (ids_of kept.inbound.rows) == most_streams)
   where
     none : (b : Bool) → (b && false) ≡ false
     none true = refl

@@ -99,7 +99,7 @@ module _ (setup : Setup) (kept : View) (count shared all : ℕ) (some : 0 < coun
 
 module _ (kept : View) (id count : ℕ) (live : is_active kept.inbound.rows id ≡ true) where
   pub still_on : GoesOn kept → GoesOn (given_on_stream kept id count)
-  still_on on = exhausted_stays kept.inbound.rows id count live most_streams ∙ on
+  still_on on = exhausted_stays kept.inbound.rows id count live kept.inbound.drained most_streams ∙ on
 
   pub still_numbered : ((other : ℕ) → has kept.inbound.rows other ≡ true → other < 2147483648) → (other : ℕ) → has (given_on_stream kept id count).inbound.rows other ≡ true → other < 2147483648
   still_numbered numbered other there = numbered other (sym (has_stays kept.inbound.rows id count live other) ∙ there)

@@ -367,7 +367,7 @@ module _ (setup : Setup) (kept : View) (id count : ℕ) (goes : goes_back_on kep
       book_is = ap (λ (b : Book). behind_stream_update b frame) leads.keeps.book ∙ ap own_book (update_grants id count small);
       given_same = refl;
       served = served_same;
-      not_to_open = not_to_open (told_by s).opened id (and_parts ((sight_in (told_by s)).opened id) _ told_live).0;
+      not_to_open = not_to_open (told_by s).drained (told_by s).opened id (and_parts ((sight_in (told_by s)).opened id) _ told_live).0;
       goes_on = goes_on_told setup run kept (due_on_stream id count) s leads on;
       rightly = update_goes (told_by s) id count some small (uncrowded setup run kept (due_on_stream id count) s leads few) (ap (λ b. b || (sight_in (told_by s)).active id && not ((sight_in (told_by s)).ended id)) of_stream ∙ and_from ((sight_in (told_by s)).active id) (not ((sight_in (told_by s)).ended id)) told_live (ap not told_open));
       owed = owed_own;

@@ -79,7 +79,7 @@ begun_behind setup fails b (Breached breach) begun = rows_begun setup fails (sum
 begun_behind setup fails b (Happened event) begun = rows_begun setup fails (summary_in b) (Happened event) b.rows begun
 begun_behind setup fails b (Sent noted) begun = rows_begun setup fails (summary_in b) (Sent noted) b.rows begun
 begun_behind setup fails b (Did act) begun = rows_begun setup fails (summary_in b) (Did act) b.rows begun
-begun_behind setup fails b (Came noted) begun = by (opens_by (ids_of b.rows) (completed_in b.block noted.frame) noted.note) refl
+begun_behind setup fails b (Came noted) begun = by (opens_by b.drained (ids_of b.rows) (completed_in b.block noted.frame) noted.note) refl
   where
     s : Summary
     s = summary_in b
@@ -90,14 +90,14 @@ begun_behind setup fails b (Came noted) begun = by (opens_by (ids_of b.rows) (co
     front : Row
     front = row_opened setup fails s (Came noted) noted.frame.id
 
-    brings : (block : Option Partial) (note : Note) → opens_by (ids_of b.rows) block note ≡ true → is_begun (frame_items block (record noted { note = note })) ≡ true
+    brings : (block : Option Partial) (note : Note) → opens_by b.drained (ids_of b.rows) block note ≡ true → is_begun (frame_items block (record noted { note = note })) ≡ true
     brings None note opens = cc
     brings (Some block) (Fields fields) opens = refl
     brings (Some block) NoBlock opens = cc
     brings (Some block) Undecodable opens = cc
     brings (Some block) Unread opens = cc
 
-    new : opens_by (ids_of b.rows) (completed_in b.block noted.frame) noted.note ≡ true → AreBegun (front ∷ rest)
+    new : opens_by b.drained (ids_of b.rows) (completed_in b.block noted.frame) noted.note ≡ true → AreBegun (front ∷ rest)
     new opens id active over = here (noted.frame.id == id) refl
       where
         here : (x : Bool) → (noted.frame.id == id) ≡ x → (find (front ∷ rest) id).outline.begun ≡ true
@@ -117,7 +117,7 @@ begun_behind setup fails b (Came noted) begun = by (opens_by (ids_of b.rows) (co
             ∙ begun_then setup fails s (Came noted) noted.frame.id fresh (ap (λ (x : Kept). x.outline.over) (sym same) ∙ over)
             (ap (λ x. is_begun (if x then frame_items (completed_in b.block noted.frame) noted else [])) (eq-eqb noted.frame.id noted.frame.id refl) ∙ brings (completed_in b.block noted.frame) noted.note opens)
 
-    by : (x : Bool) → opens_by (ids_of b.rows) (completed_in b.block noted.frame) noted.note ≡ x → AreBegun (if x then front ∷ rest else rest)
+    by : (x : Bool) → opens_by b.drained (ids_of b.rows) (completed_in b.block noted.frame) noted.note ≡ x → AreBegun (if x then front ∷ rest else rest)
     by true opens = new opens
     by false opens = rows_begun setup fails s (Came noted) b.rows begun
 

@@ -55,7 +55,7 @@ some_filtered test id (n ∷ ids) there on = by (test n) refl (n == id) refl (so
 pub active_goes_on : (outside : Outside) (inbound : Inbound) (id : ℕ) → is_active inbound.rows id ≡ true → must_end_in (told_of outside inbound) ≡ false
 active_goes_on outside inbound id active =
     let parts = and_parts (has inbound.rows id) (not (is_over_in (find inbound.rows id))) active in
-    ap (λ x. (length (ids_of inbound.rows) == most_streams) && x) (some_filtered (λ n. not (is_over_in (find inbound.rows n))) id (ids_of inbound.rows) parts.0 parts.1) ∙ and_false (length (ids_of inbound.rows) == most_streams)
+    ap (λ x. (inbound.drained || length (ids_of inbound.rows) == most_streams) && x) (some_filtered (λ n. not (is_over_in (find inbound.rows n))) id (ids_of inbound.rows) parts.0 parts.1) ∙ and_false (inbound.drained || length (ids_of inbound.rows) == most_streams)
   where
     and_false : (b : Bool) → (b && false) ≡ false
     and_false true = refl

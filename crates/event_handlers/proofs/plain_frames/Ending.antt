@@ -245,9 +245,9 @@ module _ (setup : Setup) (old : View) (rest : IsAtRest old) (frame : Frame) (pla
         })
         outputs
 
-    known : may_open (ids_of mid.rows) frame.id ≡ false
+    known : may_open mid.drained (ids_of mid.rows) frame.id ≡ false
     known =
-        ap (λ (ids : List ℕ). may_open ids frame.id) (ids_now setup before frame plain kept)
+        ap (λ (ids : List ℕ). may_open mid.drained ids frame.id) (ids_now setup before frame plain kept)
         ∙ fault_not_idle (told_of (outside_of old.untaken) old.inbound) frame plain none (Stream code) refl (fault (outside_of old.untaken))
 
     -- the judgement leaves what is kept behind the reset

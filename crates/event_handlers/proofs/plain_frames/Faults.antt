@@ -81,13 +81,13 @@ module _ (s : Summary) (frame : Frame) where
           absurd (let no : None ≡ Some fault = sym (settings_faultless s (s.stream frame.id).outline frame has (ap is_fatal is ∙ mild)) ∙ is in cc)
 
   -- A frame with such a fault is on no stream that may be opened.
-  pub fault_not_idle : IsPlain frame → completed_in s.block frame ≡ None → (fault : Fault) → is_fatal (Some fault) ≡ false → fault_in s (coming frame) ≡ Some fault → may_open s.opened frame.id ≡ false
-  fault_not_idle plain none fault mild is = by (may_open s.opened frame.id) refl
+  pub fault_not_idle : IsPlain frame → completed_in s.block frame ≡ None → (fault : Fault) → is_fatal (Some fault) ≡ false → fault_in s (coming frame) ≡ Some fault → may_open s.drained s.opened frame.id ≡ false
+  fault_not_idle plain none fault mild is = by (may_open s.drained s.opened frame.id) refl
     where
-      by : (b : Bool) → may_open s.opened frame.id ≡ b → may_open s.opened frame.id ≡ false
+      by : (b : Bool) → may_open s.drained s.opened frame.id ≡ b → may_open s.drained s.opened frame.id ≡ false
       by false may = may
       by true may =
-          let idle = idle_frame_is s (noted_of frame) (s.stream frame.id).outline may (ap (λ (o : Option Partial). opens_by s.opened o NoBlock) none) (ap is_fatal is ∙ mild) (λ some. absurd (let no : false ≡ true = sym (ap (λ (o : Option Partial). is_some o) none) ∙ some in cc)) in
+          let idle = idle_frame_is s (noted_of frame) (s.stream frame.id).outline may (ap (λ (o : Option Partial). opens_by s.drained s.opened o NoBlock) none) (ap is_fatal is ∙ mild) (λ some. absurd (let no : false ≡ true = sym (ap (λ (o : Option Partial). is_some o) none) ∙ some in cc)) in
           absurd (let no : None ≡ Some fault = sym idle.no_fault ∙ is in cc)
 
   -- nor is it a cause

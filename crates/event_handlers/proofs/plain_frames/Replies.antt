@@ -139,7 +139,7 @@ module _ (setup : Setup) (old : View) (rest : IsAtRest old) (frame : Frame) (pla
       (comes (rst_stream frame.id enhance_your_calm ∷ []) (λ outside. ap (λ out. reset_for frame.id out None (Some Cause.LargeBody)) out) outputs)
       (subst (λ (v : View). PerformsOwn setup mid owing outputs v (record balanced { fresh = data_length is_any frame; shared = waiting_for frame.id old }) (put outputs (ToClient (spell (rst_stream frame.id enhance_your_calm))))) final_is
       (subst (λ n. PerformsOwn setup mid owing outputs (reset_view mid frame.id enhance_your_calm) (record balanced { fresh = data_length is_any frame; shared = n }) (put outputs (ToClient (spell (rst_stream frame.id enhance_your_calm))))) (none_plus (waiting_for frame.id old))
-      (reset_paid setup mid owing [] frame.id enhance_your_calm refl refl (active_closed inbound.rows frame.id (now_active run s leads)) fits free outputs)))
+      (reset_paid setup mid owing [] frame.id enhance_your_calm refl refl (active_closed inbound.drained inbound.rows frame.id (now_active run s leads)) fits free outputs)))
       run s leads
     where
       none_plus : (n : ℕ) → 0 + n ≡ n

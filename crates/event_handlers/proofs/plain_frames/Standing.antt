@@ -15,7 +15,7 @@ use Rattle.model.specs.ErrorTable.{fault_of, judged, unless_of_stream, grants_no
 use Rattle.model.specs.ErrorClause.{is_fatal}
 use Rattle.model.specs.Decoding.{Partial}
 use Rattle.theory_errors.specs.Summary.{Outline, Stream as Kept, Summary, carried_in}
-use Rattle.theory_errors.specs.Judging.{is_over_in, is_active_in, active_in, completed_in, rows_in, fault_on_in, fault_by_standing_in, malformed_in, misplaced_in, no_goaway_in, standing_in, stream_update_in, stream_data_in, window_in}
+use Rattle.theory_errors.specs.Judging.{is_over_in, is_active_in, active_in, completed_in, rows_in, fault_on_in, fault_by_standing_in, malformed_in, misplaced_in, no_goaway_in, standing_in, stream_update_in, stream_data_in, room_in, window_in}
 use Rattle.theory_errors.specs.Owing.{fault_in}
 use Rattle.theory_errors.specs.Rows.{Row, ids_of, find}
 use Rattle.theory_errors.specs.Quiet.{noted_of, coming}
@@ -50,7 +50,7 @@ module _ (b : Book) (id kind : ℕ) (of_stream : (id == 0) ≡ false) (no_header
   abbrev s : Summary
   s = summary_in b
 
-  active_at : (n : ℕ) (found : Standing) → Tells s.stream s.opened id found → fault_of (verdict n found kind) ≡ None → is_active b.rows id ≡ true
+  active_at : (n : ℕ) (found : Standing) → Tells s.drained s.stream s.opened id found → fault_of (verdict n found kind) ≡ None → is_active b.rows id ≡ true
   active_at n (Opened state) tells passes =
       let k : Kept = find b.rows id in
       let on : is_over_in k ≡ false = passes_live kind k.reset_by_gateway k.reset_by_client k.ended_by_client k.ended_by_gateway (ap (λ (x : StreamState). fault_of (opened_verdict x kind)) (sym tells.1) ∙ passes) in
@@ -110,7 +110,7 @@ module _ (b : Book) (frame : Frame) (kind : ℕ) (is : frame.kind ≡ kind) (of 
 
   -- A frame of a stream that is judged by that, without a fault, is of an active stream.
   pub active_with : is_active b.rows frame.id ≡ true
-  active_with = active_at b frame.id kind of_stream no_headers (length (active_in told)) (standing_in told frame.id) (standing_tells told.stream told.opened frame.id few) passes
+  active_with = active_at b frame.id kind of_stream no_headers (length (active_in told)) (standing_in told frame.id) (standing_tells told.drained told.stream told.opened frame.id few) passes
 
   -- DATA is of one that the client hasn't ended.
   pub open_with : is_content kind ≡ true → (find b.rows frame.id).ended_by_client ≡ false
@@ -118,7 +118,7 @@ module _ (b : Book) (frame : Frame) (kind : ℕ) (is : frame.kind ≡ kind) (of 
       let k : Kept = find b.rows frame.id in
       let there : has b.rows frame.id ≡ true = (and_parts (has b.rows frame.id) (not (is_over_in k)) active_with).0 in
       passes_open kind k.reset_by_gateway k.reset_by_client k.ended_by_client k.ended_by_gateway content
-      (ap (λ (found : Standing). fault_of (verdict (length (active_in told)) found kind)) (sym (opened_standing b.rows frame.id of_stream there)) ∙ passes)
+      (ap (λ (found : Standing). fault_of (verdict (length (active_in told)) found kind)) (sym (opened_standing b.drained b.rows frame.id of_stream there)) ∙ passes)
 
 -- ---- what is discarded
 
@@ -162,7 +162,7 @@ of_rows (row ∷ rows) id kept there = by (row.id == id) refl (of_rows rows id k
 -- What comes on an active stream isn't discarded.
 pub active_not_discarded : (b : Book) (frame : Frame) → AreKept b.rows → is_active b.rows frame.id ≡ true → fault_in (summary_in b) (coming frame) ≡ Some Discarded → ⊥
 active_not_discarded b frame kept active is =
-    absurd (let no : true ≡ false = sym (ap is_discarded is) ∙ ap is_discarded whole ∙ none_of_rows (fault_by_standing_in s frame) (stream_update_in s frame) (stream_data_in s frame) (malformed_in outline s (coming frame)) standing (updates (is_active_in frame.id s && grants_nothing frame) (is_active_in frame.id s && grants_past (window_in s.first_size (s.stream frame.id)) frame)) (one flow_control_error (is_active_in frame.id s && is_past_room (s.stream frame.id).room frame)) (one protocol_error (not (is_some outline.cause) && is_malformed (carried_in outline) (completed_in s.block frame) (noted_of frame))) in cc)
+    absurd (let no : true ≡ false = sym (ap is_discarded is) ∙ ap is_discarded whole ∙ none_of_rows (fault_by_standing_in s frame) (stream_update_in s frame) (stream_data_in s frame) (malformed_in outline s (coming frame)) standing (updates (is_active_in frame.id s && grants_nothing frame) (is_active_in frame.id s && grants_past (window_in s.first_size (s.stream frame.id)) frame)) (one flow_control_error (is_active_in frame.id s && is_past_room (room_in s.own (s.stream frame.id)) frame)) (one protocol_error (not (is_some outline.cause) && is_malformed (carried_in outline) (completed_in s.block frame) (noted_of frame))) in cc)
   where
     s : Summary
     s = summary_in b
@@ -205,7 +205,7 @@ active_not_discarded b frame kept active is =
     by_kind : (o : Option ℕ) → is_discarded (fault_on_in s frame.id o) ≡ false
     by_kind None = refl
     by_kind (Some kind) =
-        ap (λ (found : Standing). is_discarded (fault_of (verdict (length (active_in s)) found kind))) (opened_standing b.rows frame.id (of_rows b.rows frame.id kept parts.0) parts.0)
+        ap (λ (found : Standing). is_discarded (fault_of (verdict (length (active_in s)) found kind))) (opened_standing b.drained b.rows frame.id (of_rows b.rows frame.id kept parts.0) parts.0)
         ∙ live_not_discarded kind k.reset_by_gateway k.reset_by_client k.ended_by_client k.ended_by_gateway (on (is_over_in k) parts.1)
 
     standing : is_discarded (fault_by_standing_in s frame) ≡ false

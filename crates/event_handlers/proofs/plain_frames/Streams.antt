@@ -86,7 +86,7 @@ module _ (setup : Setup) (b : Book) (frame : Frame) (plain : IsPlain frame) (kep
   -- so it opens no stream
   rows_now : now ≡ map (row_behind setup false told (coming frame)) b.rows
   rows_now =
-      ap (λ (o : Option Partial). if opens_by (ids_of b.rows) o NoBlock then row_opened setup false told (coming frame) frame.id ∷ map (row_behind setup false told (coming frame)) b.rows else map (row_behind setup false told (coming frame)) b.rows) none_completed
+      ap (λ (o : Option Partial). if opens_by b.drained (ids_of b.rows) o NoBlock then row_opened setup false told (coming frame) frame.id ∷ map (row_behind setup false told (coming frame)) b.rows else map (row_behind setup false told (coming frame)) b.rows) none_completed
 
   pub ids_now : ids_of now ≡ ids_of b.rows
   ids_now = ap ids_of rows_now ∙ ids_changed setup false told (coming frame) b.rows

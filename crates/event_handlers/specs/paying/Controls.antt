@@ -10,7 +10,7 @@ use Rattle.event_handlers.specs.declared.paying.control.Control.TheVariants as c
 
 -- the frame
 abbrev pub frame_of : Control → Frame
-frame_of control.Settings = settings_frame
+frame_of (control.Settings more_room) = settings_frame more_room
 frame_of control.SettingsAck = settings_ack
 frame_of (control.PingAck octets) = ping_ack octets.now
 frame_of (control.Goaway last code) = goaway last code
@@ -21,8 +21,9 @@ frame_of (control.Update stream octets) = window_update stream octets
 abbrev pub MayPay : Due → Frame → Type 0
 MayPay due frame = (due ≡ Nothing) ⊎ (frame.kind ≡ goaway_kind)
 
--- The octets of a PING are no more than a frame may have, and a stream has a number of 31 bits.
+-- A window isn't past the greatest, the octets of a PING are no more than a frame may have, and a stream has a number of 31 bits.
 abbrev pub IsShort : Control → Type 0
+IsShort (control.Settings more_room) = more_room < 2147418113
 IsShort (control.PingAck octets) = length octets.now ≤ 16384
 IsShort (control.Reset stream code) = stream < 2147483648
 IsShort (control.Update stream octets) = stream < 2147483648

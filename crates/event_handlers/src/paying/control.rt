@@ -3,11 +3,10 @@
 
 ghost use Rattle.std.specs.Prelude.{◌≡◌, ◌+◌, ◌≤◌, ◌∷◌, List, length, false, nat_lt, IfErr, OnOk};
 ghost use Rattle.model.specs.Limits.{most_untaken};
-ghost use Rattle.model.specs.Frames.{Frame, spell, settings_frame};
+ghost use Rattle.model.specs.Frames.{Frame, spell};
 ghost use Rattle.model.specs.Setup.{Setup};
 ghost use Rattle.model.specs.Logs.Output.{ToClient};
 ghost use Rattle.model.specs.Tapes.{put};
-ghost use Rattle.theory_requests.specs.State.Due.{Nothing};
 ghost use Rattle.refinement.specs.View.{Pending};
 ghost use Rattle.refinement.specs.Bringing.{PerformsOwn};
 ghost use Rattle.event_handlers.specs.Stopping.{IfOver, IsCalmed};
@@ -25,7 +24,10 @@ use std::alloc::AllocError;
 #[derive(Clone, Copy)]
 pub(crate) enum Control<'a> {
     /// The gateway's settings.
-    Settings,
+    Settings {
+        /// By how many octets the windows in which it receives are larger than 65,535.
+        more_room: u32,
+    },
     /// An acknowledgement of the client's.
     SettingsAck,
     /// The answer to a PING, with its octets, of which there are at most 16,384.
@@ -60,7 +62,8 @@ fn spelled_length(control: Control<'_>) -> u64
     ensures few { result ≤ 16393 }
 {
     match control {
-        Control::Settings => 21,
+        Control::Settings { more_room: 0 } => 21,
+        Control::Settings { .. } => 27,
         Control::SettingsAck => 9,
         Control::PingAck(octets) => 9 + octets.len() as u64,
         Control::Goaway { .. } => 17,
@@ -74,7 +77,7 @@ fn put_out(control: Control<'_>, out: &mut Outputs) -> Result<(), AllocError>
     ensures { OnOk result (out.new ≡ put out.old (ToClient (spell (frame_of control.entry)))) }
 {
     match control {
-        Control::Settings => out.send_settings(),
+        Control::Settings { more_room } => out.send_settings(more_room),
         Control::SettingsAck => out.send_settings_ack(),
         Control::PingAck(octets) => out.send_ping_ack(octets),
         Control::Goaway { last, code } => out.send_goaway(last, code),
@@ -110,19 +113,4 @@ pub(crate) fn pay(
     count_untaken(session, spelled_length(control));
     put_out(control, out)?;
     Ok(())
-}
-
-/// Sends the gateway's settings, before all else (RFC 9113, section 3.4). An `Err` says that memory was refused.
-pub fn greet(session: &mut Session, out: &mut Outputs) -> Result<(), AllocError>
-    requires { nat_lt most_untaken session.old.untaken ≡ false }
-    ensures performs { OnOk result ((setup : Setup) (rest : List Frame) (pending : Pending) → pending.owed ≡ settings_frame ∷ rest → pending.due ≡ Nothing
-        → PerformsOwn setup session.old pending out.old session.new (record pending { owed = rest }) out.new) }
-    ensures puts { OnOk result (out.new ≡ put out.old (ToClient (spell settings_frame))) }
-    ensures counts { OnOk result (session.new ≡ record session.old { untaken = session.old.untaken + length (spell settings_frame) }) }
-{
-    match pay(session, Control::Settings, out) {
-        Ok(()) => Ok(()),
-        Err(Halt::Memory) => Err(AllocError),
-        Err(Halt::Over) => unreachable!(),
-    }
 }

@@ -2,7 +2,7 @@
 //! upstream took what was put out for it.
 
 ghost use Rattle.std.specs.Prelude.{◌≡◌, ◌+◌, ◌<◌, ◌≤◌, ℕ, true, false, nat_lt, IfErr, IfOk, OnOk, pos, ◌+ℤ◌, ◌≤ℤ◌};
-ghost use Rattle.model.specs.Limits.{most_untaken, greatest_window};
+ghost use Rattle.model.specs.Limits.{most_untaken};
 ghost use Rattle.model.specs.Frames.{spell};
 ghost use Rattle.model.specs.Setup.{Setup};
 ghost use Rattle.model.specs.Logs.Output.{ToClient};
@@ -41,7 +41,7 @@ pub(crate) fn goes_back_on(session: &Session, stream: u32) -> bool
 
 /// Gives so many octets back on the connection.
 pub(crate) fn give_back(session: &mut Session, octets: u32, out: &mut Outputs) -> Result<(), Halt>
-    requires { (session.old.inbound.room +ℤ pos octets) ≤ℤ pos greatest_window }
+    requires { (session.old.inbound.room +ℤ pos octets) ≤ℤ pos session.old.inbound.own }
     ensures given { OnOk result (session.new ≡ given_on_connection session.old octets) }
     ensures put_out { OnOk result (out.new ≡ put out.old (ToClient (spell (window_update 0 octets)))) }
     ensures few { OnOk result (nat_lt most_untaken session.old.untaken ≡ false) }

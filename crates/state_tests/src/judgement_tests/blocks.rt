@@ -288,7 +288,7 @@ fn route_of(alloc: Global, prefix: &[u8]) -> Result<RoutePattern, AllocError> {
 
 /// A connection on which settings came.
 fn settled(alloc: Global) -> Connection {
-    let mut connection = Connection::new(alloc);
+    let mut connection = Connection::new(alloc, 0);
     let settings = View {
         kind: 4,
         flags: 0,

@@ -37,7 +37,7 @@ fn first_with(
     course: Course,
     rows: &[Row<'_>],
 ) -> Result<Option<usize>, Fail> {
-    let mut connection = Connection::new(alloc);
+    let mut connection = Connection::new(alloc, 0);
     first_behind_opening(&mut connection, ids, course, rows)
 }
 
@@ -80,7 +80,7 @@ fn content_keeps_to_the_connections_window(rt: HostRuntime) -> Result<(), Fail> 
 
 /// Gives an octet back to the connection alone.
 fn give_back_one(connection: &mut Connection) {
-    if connection.room() < 1000000 {
+    if connection.room() < i64::from(connection.receiving_window()) {
         connection.gave_back(1);
     }
 }
@@ -129,7 +129,7 @@ fn first_before_the_last(
 
 /// The same, on a connection of its own.
 fn first_within_window(alloc: Global, rows: &[Row<'_>]) -> Result<Option<usize>, Fail> {
-    let mut connection = Connection::new(alloc);
+    let mut connection = Connection::new(alloc, 0);
     first_before_the_last(&mut connection, rows)
 }
 
@@ -154,7 +154,7 @@ fn ends_are_ends_within_windows(rt: HostRuntime) -> Result<(), Fail> {
         (0, 1, 1, &LESS, Judged::Content(&LESS, true)),
         (0, 0, 1, b"a", Judged::Failed(FrameError::Stream(5))),
     ];
-    let mut connection = Connection::new(rt.alloc());
+    let mut connection = Connection::new(rt.alloc(), 0);
     assert_eq!(rt; first_behind_filling(&mut connection, &rows)?, None);
     Ok(())
 }

@@ -98,7 +98,7 @@ pub(crate) fn first_that_differs(connection: &mut Connection, rows: &[Row<'_>]) 
 
 /// The same, on a connection on which nothing came.
 fn first_that_differs_at_first(alloc: Global, rows: &[Row<'_>]) -> Option<usize> {
-    first_that_differs(&mut Connection::new(alloc), rows)
+    first_that_differs(&mut Connection::new(alloc, 0), rows)
 }
 
 /// Takes settings, and opens these streams with requests of this course.
@@ -268,7 +268,7 @@ fn assert_granted_and_reset(rt: &impl Abort, connection: &mut Connection) -> Res
 
 #[test]
 fn streams_are_granted_to_and_reset(rt: HostRuntime) -> Result<(), Fail> {
-    assert_granted_and_reset(&rt, &mut Connection::new(rt.alloc()))
+    assert_granted_and_reset(&rt, &mut Connection::new(rt.alloc(), 0))
 }
 
 /// The first of a thousand streams that isn't opened, reset while it is active, and left alone when it is reset again.
@@ -306,5 +306,5 @@ fn assert_resets_are_counted(rt: &impl Abort, connection: &mut Connection) -> Re
 
 #[test]
 fn a_thousand_active_streams_are_reset(rt: HostRuntime) -> Result<(), Fail> {
-    assert_resets_are_counted(&rt, &mut Connection::new(rt.alloc()))
+    assert_resets_are_counted(&rt, &mut Connection::new(rt.alloc(), 0))
 }

@@ -7,7 +7,7 @@ use frames::View;
 use std::alloc::AllocError;
 use std::process::Abort;
 use std::test::*;
-use stream_state::{Standing, State};
+use stream_state::{Kind, Standing, State, Verdict};
 use streams::{Cause, Course, Reply};
 
 /// What goes out on stream 1, or comes to it.
@@ -62,7 +62,7 @@ fn takes(connection: &mut Connection, kind: u8, id: u32, payload: &[u8]) -> bool
 
 /// Gives octets back to the connection where it has room for them, and says whether it does.
 fn gives_back(connection: &mut Connection, octets: u32) -> bool {
-    if connection.room() > 2147483647 - i64::from(octets) {
+    if connection.room() + i64::from(octets) > i64::from(connection.receiving_window()) {
         return false;
     }
     connection.gave_back(octets);
@@ -192,7 +192,7 @@ fn first_that_differs(
     ended: bool,
     rows: &[Row<'_>],
 ) -> Result<Option<usize>, Fail> {
-    let mut connection = Connection::new(rt.alloc());
+    let mut connection = Connection::new(rt.alloc(), 0);
     first_behind_opening(&mut connection, ended, rows)
 }
 
@@ -284,11 +284,12 @@ static TABLES: [(&str, bool, &[Row]); 6] = [
         &[
             (Act::Come(4, 0, b""), true, &[]),
             (Act::Come(0, 1, b"abcde"), true, &[Of::Room(65530)]),
+            (Act::GiveBack(6), false, &[]),
             (Act::GiveBack(5), true, &[Of::Room(65535)]),
             (
                 Act::GiveBackOn(3),
                 true,
-                &[Of::Streams(&[Fact::Of(1, Seen::Room(65533))])],
+                &[Of::Streams(&[Fact::Of(1, Seen::Room(-2))])],
             ),
         ],
     ),
@@ -367,8 +368,27 @@ fn assert_is_exhausted(rt: &impl Abort, connection: &mut Connection) -> Result<(
     Ok(())
 }
 
+/// On a connection that is drained a stream goes on that was opened, and no other is opened. The
+/// connection is spent once none is active.
+fn assert_is_drained(rt: &impl Abort, connection: &mut Connection) -> Result<(), AllocError> {
+    assert!(rt; serves(connection, 5, false)?);
+    assert_eq!(rt; connection.drain(), Some(5));
+    assert_eq!(rt; connection.drain(), None);
+    assert_eq!(rt; connection.verdict(7, Kind::Headers), Verdict::Discard);
+    assert!(rt; !connection.is_exhausted());
+    reset(connection, 5);
+    assert!(rt; connection.is_exhausted());
+    Ok(())
+}
+
+#[test]
+fn connections_are_drained(rt: HostRuntime) -> Result<(), Fail> {
+    assert_is_drained(&rt, &mut Connection::new(rt.alloc(), 0))?;
+    Ok(())
+}
+
 #[test]
 fn connections_are_exhausted(rt: HostRuntime) -> Result<(), Fail> {
-    assert_is_exhausted(&rt, &mut Connection::new(rt.alloc()))?;
+    assert_is_exhausted(&rt, &mut Connection::new(rt.alloc(), 0))?;
     Ok(())
 }

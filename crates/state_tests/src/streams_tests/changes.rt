@@ -41,12 +41,13 @@ fn grants(streams: &mut StreamTable, id: u32, increment: u32) -> bool {
     true
 }
 
-/// Takes DATA of so many octets, all content, where the stream is active and has room, and says whether it does.
+/// Takes DATA of so many octets, all content, where the stream is active and its receiving window
+/// stays a window's size, and says whether it does.
 fn takes(streams: &mut StreamTable, id: u32, count: u32, ended: bool) -> bool {
     let Some(live) = streams.find(id) else {
         return false;
     };
-    if live.room() < i64::from(count) {
+    if live.room() - i64::from(count) < -2147483647 {
         return false;
     }
     let course = live
@@ -217,7 +218,7 @@ static TABLES: [(&str, &[Row]); 7] = [
                 &[
                     Fact::Shifts(65536, false),
                     Fact::Of(5, Seen::Balance(0)),
-                    Fact::Of(5, Seen::Room(65535)),
+                    Fact::Of(5, Seen::Room(0)),
                     Fact::Of(5, Seen::At(State::Open)),
                 ],
             ),
@@ -229,6 +230,7 @@ static TABLES: [(&str, &[Row]); 7] = [
             (5, Act::Open(false), true, &[]),
             (9, Act::Open(false), true, &[]),
             (5, Act::Take(65535, false), true, &[]),
+            (5, Act::Take(2147418112, false), true, &[]),
             (5, Act::Take(1, false), false, &[]),
             (5, Act::Take(0, true), true, &[]),
             (
@@ -237,7 +239,7 @@ static TABLES: [(&str, &[Row]); 7] = [
                 true,
                 &[
                     Fact::Stands(5, Standing::Opened(State::HalfClosedRemote)),
-                    Fact::Of(9, Seen::Room(49151)),
+                    Fact::Of(9, Seen::Room(-16384)),
                     Fact::Of(9, Seen::With(TAKEN)),
                     Fact::Of(9, Seen::At(State::Open)),
                     Fact::Of(9, Seen::HeadOut(false)),
@@ -313,14 +315,14 @@ static TABLES: [(&str, &[Row]); 7] = [
                 true,
                 &[
                     Fact::Of(5, Seen::Balance(-16385)),
-                    Fact::Of(5, Seen::Room(66535)),
+                    Fact::Of(5, Seen::Room(1000)),
                     Fact::Of(5, Seen::With(BEGUN)),
                     Fact::Of(5, Seen::At(State::Open)),
                 ],
             ),
             (5, Act::Data(2147467262, false), true, &[]),
             (5, Act::Data(1, false), false, &[]),
-            (5, Act::GiveBack(2147417112), true, &[]),
+            (5, Act::GiveBack(2147482647), true, &[]),
             (5, Act::GiveBack(1), false, &[]),
         ],
     ),

@@ -3,7 +3,7 @@ use Rattle.theory_receive_windows.proofs.Resting as resting
 use Rattle.theory_receive_windows.proofs.rooms_are_told.Goals as goal
 
 pub returns-clause-shared : goal.returns-clause-shared
-returns-clause-shared c passing moves all = resting.shared_room passing (tape_of moves) (state_of passing moves) (resting.receiving passing moves all)
+returns-clause-shared c more passing moves all = resting.shared_room more passing (tape_of moves) (state_of more passing moves) (resting.receiving more passing moves all)
 
 pub returns-clause-own : goal.returns-clause-own
-returns-clause-own c passing moves id all on = resting.own_room passing (tape_of moves) (state_of passing moves) id (resting.receiving passing moves all) on
+returns-clause-own c more passing moves id all on = resting.own_room more passing (tape_of moves) (state_of more passing moves) id (resting.receiving more passing moves all) on

@@ -14,12 +14,12 @@ use Rattle.connection_state.proofs.BlockRows.{wanted_by}
 use Rattle.connection_state.proofs.blocks.judge_block.Goals as goal
 
 -- where the state of its stream allows a block
-passing : (rows : List Row) (id : ℕ) (a : Answer) → (id == 0) ≡ false → verdict_in a ≡ asked.verdict rows id 1 → AllowsOpening a rows id → fault_of (asked.verdict rows id 1) ≡ None → IsOpenOrIdle rows id
+passing : (rows : List Row) (id : ℕ) (a : Answer) → (id == 0) ≡ false → verdict_in a ≡ asked.verdict false rows id 1 → AllowsOpening a rows id → fault_of (asked.verdict false rows id 1) ≡ None → IsOpenOrIdle rows id
 passing rows id a of_stream is allows passes =
     wanted_by rows id a of_stream is allows (ap unless_of_stream passes) (λ discarded. let no : None ≡ Some Discarded = sym passes ∙ discarded in cc)
 
 -- where it is an error of the stream
-failing : (rows : List Row) (id : ℕ) (a : Answer) (f : Fault) → (id == 0) ≡ false → verdict_in a ≡ asked.verdict rows id 1 → AllowsOpening a rows id → fault_of (asked.verdict rows id 1) ≡ Some f → is_of_stream (Some f) ≡ true → IsOpenOrIdle rows id
+failing : (rows : List Row) (id : ℕ) (a : Answer) (f : Fault) → (id == 0) ≡ false → verdict_in a ≡ asked.verdict false rows id 1 → AllowsOpening a rows id → fault_of (asked.verdict false rows id 1) ≡ Some f → is_of_stream (Some f) ≡ true → IsOpenOrIdle rows id
 failing rows id a (Stream code) of_stream is allows fails soft =
     wanted_by rows id a of_stream is allows (ap unless_of_stream fails) (λ discarded. let no : Some (Stream code) ≡ Some Discarded = sym fails ∙ discarded in cc)
 failing rows id a (Connection code) of_stream is allows fails soft = absurd (let no : false ≡ true = soft in cc)

@@ -1,4 +1,4 @@
-use Rattle.std.proofs.Common.{◌≡◌, Bool, true, false, if◌then◌else◌, List, Some, sym, ◌∙◌, ap}
+use Rattle.std.proofs.Common.{if◌then◌else◌, Some, ◌∙◌, ap}
 use Rattle.model.specs.Errors.Fault.{Stream}
 use Rattle.connection_state.proofs.Kept.{if_ok}
 use Rattle.connection_state.proofs.Settling.{not_crowded, settles_alike}

@@ -16,7 +16,7 @@ use Rattle.connection_state.proofs.Settling.{malformed_by, bad_head, cause_of_fi
 use Rattle.connection_state.proofs.blocks.take_head.Goals as goal
 
 -- its fault, by whether it is malformed
-found : (rows : List Row) (id : ℕ) (fields : List Field) (ends : Bool) (course : Course) (bad : Bool) → fault_of (verdict rows id 1) ≡ None → outline_of course ≡ (find rows id).outline → course.begun ≡ false → course.reply ≡ None
+found : (rows : List Row) (id : ℕ) (fields : List Field) (ends : Bool) (course : Course) (bad : Bool) → fault_of (verdict false rows id 1) ≡ None → outline_of course ≡ (find rows id).outline → course.begun ≡ false → course.reply ≡ None
     → is_bad_head fields ends ≡ bad → fault_on rows id fields ends ≡ fault_if bad (Stream 1)
 found rows id fields ends course bad passes same begun none is = malformed_by rows id fields ends (outline_of course) bad passes same (bad_head (outline_of course) fields ends bad (no_reply course (outline_of course) refl none) begun is)
 

@@ -25,7 +25,7 @@ use Rattle.connection_state.proofs.Settling.{left_by, malformed_by, bad_trailers
 use Rattle.connection_state.proofs.blocks.take_trailers.Goals as goal
 
 -- its fault, by what was tested
-found : (rows : List Row) (id : ℕ) (fields : List Field) (ends : Bool) (course : Course) (octets : ℕ) (test : Bool) → fault_of (verdict rows id 1) ≡ None → outline_of course ≡ (find rows id).outline → course.begun ≡ true → course.reply ≡ None → octets ≡ course.octets
+found : (rows : List Row) (id : ℕ) (fields : List Field) (ends : Bool) (course : Course) (octets : ℕ) (test : Bool) → fault_of (verdict false rows id 1) ≡ None → outline_of course ≡ (find rows id).outline → course.begun ≡ true → course.reply ≡ None → octets ≡ course.octets
     → ((waits : Bool) → test ≡ is_bad_block (behind_head course.declared octets waits) ends (Fields fields)) → fault_on rows id fields ends ≡ fault_if test (Stream 1)
 found rows id fields ends course octets test passes same begun none count tests =
     malformed_by rows id fields ends (outline_of course) test passes same (bad_trailers (outline_of course) fields ends test (no_reply course (outline_of course) refl none) begun (

@@ -9,3 +9,6 @@ returns-clause-heard c = laws.heard_lead
 
 pub returns-clause-took : goal.returns-clause-took
 returns-clause-took c = laws.took_leads
+
+pub returns-clause-drains : goal.returns-clause-drains
+returns-clause-drains c = laws.drain_leads

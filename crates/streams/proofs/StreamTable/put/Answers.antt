@@ -1,10 +1,11 @@
-use Rattle.std.proofs.Common.{◌≡◌, ◌==◌, ◌≤ℤ◌, pos, ap, sym, subst, ◌∙◌, false}
+use Rattle.std.proofs.Common.{◌≡◌, ◌==◌, ap, sym, subst, ◌∙◌, false}
 use Rattle.std.specs.Prelude.{Option, IfSome}
 use Rattle.theory_errors.specs.Summary.{Stream as Kept}
 use Rattle.theory_errors.specs.Judging.{is_over_in}
 use Rattle.streams.specs.declared.records.StreamRecord.{StreamRecord}
 use Rattle.streams.specs.Asked.{is_active}
 use Rattle.streams.specs.Steps.{taken}
+use Rattle.streams.specs.Sending.{AreTakable}
 use Rattle.streams.specs.Views.{outline_of}
 use Rattle.streams.specs.Records.{IsAt}
 use Rattle.streams.proofs.Asked.{read_at, over_here, none_here}
@@ -30,8 +31,8 @@ take_at-requires c = λ some.
     let there = read_at es c.in-Ok.place c.index.result.now is.within c.index.ensures in
     let here = here_at es c.self.inside.records.slots c.args.id c.in-Ok.place c.in-Live.key c.self.invariant is (ap (λ e. e.slot) there ∙ c.in-Live.is) in
     let live = kept_here es c.self.inside.records.slots c.args.id c.in-Ok.place c.in-Live.key here.0 c.self.invariant here.1 in
-    let fits : (c.args.octets == 0) ≡ false → pos c.args.octets ≤ℤ here.0.live.room = subst (λ (k : Kept). (c.args.octets == 0) ≡ false → pos c.args.octets ≤ℤ k.room) live.found (rw c.self.view_is c.requires.fits) in
-    subst (λ (o : Option StreamRecord). IfSome o (λ (r : StreamRecord). pos c.args.octets ≤ℤ r.live.room)) (sym here.1.there) (fits some)
+    let fits : (c.args.octets == 0) ≡ false → AreTakable c.args.octets here.0.live = subst (λ (k : Kept). (c.args.octets == 0) ≡ false → AreTakable c.args.octets k) live.found (rw c.self.view_is c.requires.fits) in
+    subst (λ (o : Option StreamRecord). IfSome o (λ (r : StreamRecord). AreTakable c.args.octets r.live)) (sym here.1.there) (fits some)
 
 pub invariant_of-self : goal.invariant_of-self
 invariant_of-self c =

@@ -20,8 +20,8 @@ returns-in-Ok c =
     let there = read_at c.self.inside.entries.items c.in-Ok.place c.index.result.now is.within c.index.ensures in
     let told : state_told c.state_of.result ≡ state_in (kept_in (slot_in c.self.inside.records.slots (at c.self.inside.entries.items c.in-Ok.place).slot)) =
     c.state_of.ensures ∙ ap (λ (e : StreamEntry). state_in (kept_in (slot_in c.self.inside.records.slots e.slot))) (sym there) in
-    rw (← c.self.view_is) (ap Opened told ∙ standing_at c.self.inside.entries.items c.self.inside.records.slots c.args.id c.in-Ok.place c.self.invariant.kept c.if-id-eq0.false is)
+    rw (← c.self.view_is) (ap Opened told ∙ standing_at c.args.drained c.self.inside.entries.items c.self.inside.records.slots c.args.id c.in-Ok.place c.self.invariant.kept c.if-id-eq0.false is)
 
 pub returns-in-Err : goal.returns-in-Err
 returns-in-Err c =
-    rw (← c.self.view_is) (c.unopened_standing.ensures ∙ rw (c.len-count.ensures, ← c.deref.ensures.len, c.deref.ensures.value) (standing_in_gap c.self.inside.entries.items c.self.inside.records.slots c.args.id c.in-Err.place c.self.invariant.kept c.if-id-eq0.false (rw (← c.deref.ensures.value) c.in-Err.ensures.absent)))
+    rw (← c.self.view_is) (c.unopened_standing.ensures ∙ rw (c.len-count.ensures, ← c.deref.ensures.len, c.deref.ensures.value) (standing_in_gap c.args.drained c.self.inside.entries.items c.self.inside.records.slots c.args.id c.in-Err.place c.self.invariant.kept c.if-id-eq0.false (rw (← c.deref.ensures.value) c.in-Err.ensures.absent)))

@@ -17,14 +17,14 @@ returns-clause-is c =
     let counted = active_is c.self.inside.entries.items c.self.inside.records.slots c.self.invariant in
     c.verdict_at.ensures
     ∙ ap (λ (s : Standing). states.verdict c.len.result s (kind_in c.args.kind)) c.standing-standing.ensures
-    ∙ ap (λ (n : ℕ). states.verdict n (standing c.args.self.now c.args.id) (kind_in c.args.kind)) (c.len.ensures ∙ rw (← c.self.view_is) counted)
+    ∙ ap (λ (n : ℕ). states.verdict n (standing c.args.drained c.args.self.now c.args.id) (kind_in c.args.kind)) (c.len.ensures ∙ rw (← c.self.view_is) counted)
 
 pub returns-clause-allows : goal.returns-clause-allows
 returns-clause-allows c =
     let counted = active_is c.self.inside.entries.items c.self.inside.records.slots c.self.invariant in
     let few : length (rows_in c.self.inside.entries.items c.self.inside.records.slots) ≤ most_streams = omega (arith, count_rows c.self.inside.entries.items c.self.inside.records.slots, c.self.invariant.few) in
-    let is : verdict_in c.verdict_at.result ≡ verdict c.args.self.now c.args.id (kind_in c.args.kind) =
+    let is : verdict_in c.verdict_at.result ≡ verdict c.args.drained c.args.self.now c.args.id (kind_in c.args.kind) =
     c.verdict_at.ensures
     ∙ ap (λ (s : Standing). states.verdict c.len.result s (kind_in c.args.kind)) c.standing-standing.ensures
-    ∙ ap (λ (n : ℕ). states.verdict n (standing c.args.self.now c.args.id) (kind_in c.args.kind)) (c.len.ensures ∙ rw (← c.self.view_is) counted) in
-    allows c.args.self.now c.args.id (kind_in c.args.kind) c.verdict_at.result (rw (← c.self.view_is) few) is
+    ∙ ap (λ (n : ℕ). states.verdict n (standing c.args.drained c.args.self.now c.args.id) (kind_in c.args.kind)) (c.len.ensures ∙ rw (← c.self.view_is) counted) in
+    allows c.args.drained c.args.self.now c.args.id (kind_in c.args.kind) c.verdict_at.result (rw (← c.self.view_is) few) is

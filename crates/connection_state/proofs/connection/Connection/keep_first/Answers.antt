@@ -34,6 +34,7 @@ invariant_of-self-2 c =
     let frame : Frame = frame_of c.args.view in
     let sound : IsSound i frame = subst (λ (x : Inbound). IsSound x frame) (sym c.self.view_is) c.requires.sound in
     record {
+      small = c.self.invariant.small;
       kept = c.self.invariant.kept;
       counted = λ some. sym (ap (λ (j : Joining). j.continuations) c.in_ok-first.ensures.begun);
       of_stream = λ block is. ap (λ n. n == 0) (ap id_of (sym is ∙ ap (λ (j : Joining). j.begun) c.in_ok-first.ensures.begun)) ∙ headers_of_stream i frame c.requires.kind sound;

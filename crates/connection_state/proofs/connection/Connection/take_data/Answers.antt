@@ -33,7 +33,7 @@ refuse-requires-clause-is c = λ outside.
     let octets : c.args.octets.now ≡ content frame = c.requires.content ∙ ap content c.requires.kind in
     let ends : c.ends_stream-ends.result ≡ ends_stream frame = c.ends_stream-ends.ensures ∙ ap ends_stream c.requires.kind in
     let fault : (outside : Outside) → fault_in (told_of outside i) (coming frame) ≡ option_map Stream c.body_code-code.result =
-    by_code i c.args.view.flags c.args.view.id c.args.view.payload.now c.requires.of_stream sound admitted c.in-Some-find.live.now found c.ends_stream-ends.result ends c.body_code-code.result (c.body_code-code.ensures (content frame) (ap length (sym octets))) in
+    by_code i c.args.view.flags c.args.view.id c.args.view.payload.now c.requires.of_stream sound admitted c.in-Some-find.live.now found c.ends_stream-ends.result ends c.self.inside.own (ap (λ (x : Inbound). x.own) (sym c.self.view_is)) c.body_code-code.result (c.body_code-code.ensures (content frame) (ap length (sym octets))) in
     subst (λ (f : Frame). fault_in (told_of outside i) (coming f) ≡ Some (Stream c.in-Some-code.code)) (sym c.requires.kind) (fault outside ∙ ap (option_map Stream) c.in-Some-code.is)
 
 pub returns-in-Some-code-clause-judged : goal.returns-in-Some-code-clause-judged
@@ -53,7 +53,7 @@ returns-then-is_replied_now-clause-judged c = λ setup outside bound.
     let octets : c.args.octets.now ≡ content frame = c.requires.content ∙ ap content c.requires.kind in
     let ends : c.ends_stream-ends.result ≡ ends_stream frame = c.ends_stream-ends.ensures ∙ ap ends_stream c.requires.kind in
     let fault : (outside : Outside) → fault_in (told_of outside i) (coming frame) ≡ option_map Stream c.body_code-code.result =
-    by_code i c.args.view.flags c.args.view.id c.args.view.payload.now c.requires.of_stream sound admitted c.in-Some-find.live.now found c.ends_stream-ends.result ends c.body_code-code.result (c.body_code-code.ensures (content frame) (ap length (sym octets))) in
+    by_code i c.args.view.flags c.args.view.id c.args.view.payload.now c.requires.of_stream sound admitted c.in-Some-find.live.now found c.ends_stream-ends.result ends c.self.inside.own (ap (λ (x : Inbound). x.own) (sym c.self.view_is)) c.body_code-code.result (c.body_code-code.ensures (content frame) (ap length (sym octets))) in
     let kept : AreKept i.rows = subst (λ (x : Inbound). AreKept x.rows) c.self.view_is c.self.invariant.kept in
     let right : fault_in (told_of outside i) (coming frame) ≡ None = fault outside ∙ ap (option_map Stream) c.in_default-code.is in
     let was : outline_of c.course-before.result ≡ (find i.rows c.args.view.id).outline = c.course-before.ensures ∙ ap (λ (k : Kept). k.outline) (sym found) in
@@ -85,7 +85,7 @@ returns-clause-judged c = λ setup outside bound.
     let octets : c.args.octets.now ≡ content frame = c.requires.content ∙ ap content c.requires.kind in
     let ends : c.ends_stream-ends.result ≡ ends_stream frame = c.ends_stream-ends.ensures ∙ ap ends_stream c.requires.kind in
     let fault : (outside : Outside) → fault_in (told_of outside i) (coming frame) ≡ option_map Stream c.body_code-code.result =
-    by_code i c.args.view.flags c.args.view.id c.args.view.payload.now c.requires.of_stream sound admitted c.in-Some-find.live.now found c.ends_stream-ends.result ends c.body_code-code.result (c.body_code-code.ensures (content frame) (ap length (sym octets))) in
+    by_code i c.args.view.flags c.args.view.id c.args.view.payload.now c.requires.of_stream sound admitted c.in-Some-find.live.now found c.ends_stream-ends.result ends c.self.inside.own (ap (λ (x : Inbound). x.own) (sym c.self.view_is)) c.body_code-code.result (c.body_code-code.ensures (content frame) (ap length (sym octets))) in
     let kept : AreKept i.rows = subst (λ (x : Inbound). AreKept x.rows) c.self.view_is c.self.invariant.kept in
     let right : fault_in (told_of outside i) (coming frame) ≡ None = fault outside ∙ ap (option_map Stream) c.in_default-code.is in
     let was : outline_of c.course-before.result ≡ (find i.rows c.args.view.id).outline = c.course-before.ensures ∙ ap (λ (k : Kept). k.outline) (sym found) in

@@ -15,6 +15,7 @@ pub invariant_of-self : goal.invariant_of-self
 invariant_of-self c =
     let none = headers_first (the_view c.self.inside) (frame_of c.args.view) c.requires.kind (subst (λ (x : Inbound). IsSound x (frame_of c.args.view)) (sym c.self.view_is) c.requires.sound) in
     record {
+      small = c.self.invariant.small;
       kept = c.self.invariant.kept;
       counted = λ some. absurd (let no : false ≡ true = sym (ap is_some none) ∙ some in cc);
       of_stream = c.self.invariant.of_stream;

@@ -36,7 +36,7 @@ pass_over-requires-clause-is c = λ outside.
     let i : Inbound = the_view c.self.inside in
     let frame : Frame = update c.args.view.flags c.args.view.id c.args.view.payload.now in
     let sound : IsSound i frame = subst (λ (f : Frame). IsSound i f) c.requires.kind (subst (λ (x : Inbound). IsSound x (frame_of c.args.view)) (sym c.self.view_is) c.requires.sound) in
-    let fault : fault_by (asked.verdict c.self.inside.streams c.args.view.id 8) ≡ Some (fault_told c.in-Some.fault) =
+    let fault : fault_by (asked.verdict c.self.inside.drained c.self.inside.streams c.args.view.id 8) ≡ Some (fault_told c.in-Some.fault) =
     ap fault_by (sym c.verdict.ensures.is) ∙ sym c.fault_of.ensures ∙ ap (option_map fault_told) c.in-Some.is in
     moved (λ (x : Inbound) (f : Frame). fault_in (told_of outside x) (coming f) ≡ Some (fault_told c.in-Some.fault)) i c.args.self.now frame (frame_of c.args.view) c.self.view_is c.requires.kind (update_idle any_setup (book_of outside i) c.args.view.flags c.args.view.id c.args.view.payload.now c.requires.of_stream (sound outside) c.self.invariant.kept (fault_told c.in-Some.fault) fault (find c.self.inside.streams c.args.view.id).outline)
 
@@ -45,28 +45,28 @@ pass_over-requires-clause-left c = λ mild setup outside.
     let i : Inbound = the_view c.self.inside in
     let frame : Frame = update c.args.view.flags c.args.view.id c.args.view.payload.now in
     let sound : IsSound i frame = subst (λ (f : Frame). IsSound i f) c.requires.kind (subst (λ (x : Inbound). IsSound x (frame_of c.args.view)) (sym c.self.view_is) c.requires.sound) in
-    let fault : fault_by (asked.verdict c.self.inside.streams c.args.view.id 8) ≡ Some (fault_told c.in-Some.fault) =
+    let fault : fault_by (asked.verdict c.self.inside.drained c.self.inside.streams c.args.view.id 8) ≡ Some (fault_told c.in-Some.fault) =
     ap fault_by (sym c.verdict.ensures.is) ∙ sym c.fault_of.ensures ∙ ap (option_map fault_told) c.in-Some.is in
-    let idle = update_inactive c.self.inside.streams c.args.view.id c.requires.of_stream (fault_told c.in-Some.fault) fault in
+    let idle = update_inactive c.self.inside.drained c.self.inside.streams c.args.view.id c.requires.of_stream (fault_told c.in-Some.fault) fault in
     moved (λ (x : Inbound) (f : Frame). behind setup (book_of outside x) f ≡ heard (book_of outside x) f) i c.args.self.now frame (frame_of c.args.view) c.self.view_is c.requires.kind (update_behind_none setup (book_of outside i) c.args.view.flags c.args.view.id c.args.view.payload.now c.requires.of_stream (sound outside) c.self.invariant.kept idle (fault_told c.in-Some.fault) fault mild)
 
 pub update_code-requires : goal.update_code-requires
 update_code-requires c =
-    let passes : fault_by (asked.verdict c.self.inside.streams c.args.view.id 8) ≡ None =
+    let passes : fault_by (asked.verdict c.self.inside.drained c.self.inside.streams c.args.view.id 8) ≡ None =
     ap fault_by (sym c.verdict.ensures.is) ∙ sym c.fault_of.ensures ∙ ap (option_map fault_told) c.in_default.is in
-    update_active c.self.inside.streams c.args.view.id c.requires.of_stream passes
+    update_active c.self.inside.drained c.self.inside.streams c.args.view.id c.requires.of_stream passes
 
 pub close-requires : goal.close-requires
 close-requires c =
-    let passes : fault_by (asked.verdict c.self.inside.streams c.args.view.id 8) ≡ None =
+    let passes : fault_by (asked.verdict c.self.inside.drained c.self.inside.streams c.args.view.id 8) ≡ None =
     ap fault_by (sym c.verdict.ensures.is) ∙ sym c.fault_of.ensures ∙ ap (option_map fault_told) c.in_default.is in
-    update_active c.self.inside.streams c.args.view.id c.requires.of_stream passes
+    update_active c.self.inside.drained c.self.inside.streams c.args.view.id c.requires.of_stream passes
 
 pub grant-requires-clause-live : goal.grant-requires-clause-live
 grant-requires-clause-live c =
-    let passes : fault_by (asked.verdict c.self.inside.streams c.args.view.id 8) ≡ None =
+    let passes : fault_by (asked.verdict c.self.inside.drained c.self.inside.streams c.args.view.id 8) ≡ None =
     ap fault_by (sym c.verdict.ensures.is) ∙ sym c.fault_of.ensures ∙ ap (option_map fault_told) c.in_default.is in
-    update_active c.self.inside.streams c.args.view.id c.requires.of_stream passes
+    update_active c.self.inside.drained c.self.inside.streams c.args.view.id c.requires.of_stream passes
 
 pub hear-requires : goal.hear-requires
 hear-requires c =
@@ -83,9 +83,9 @@ returns-in-Some-update_code-clause-judged c = λ setup outside.
     let i : Inbound = the_view c.self.inside in
     let frame : Frame = update c.args.view.flags c.args.view.id c.args.view.payload.now in
     let sound : IsSound i frame = subst (λ (f : Frame). IsSound i f) c.requires.kind (subst (λ (x : Inbound). IsSound x (frame_of c.args.view)) (sym c.self.view_is) c.requires.sound) in
-    let passes : fault_by (asked.verdict c.self.inside.streams c.args.view.id 8) ≡ None =
+    let passes : fault_by (asked.verdict c.self.inside.drained c.self.inside.streams c.args.view.id 8) ≡ None =
     ap fault_by (sym c.verdict.ensures.is) ∙ sym c.fault_of.ensures ∙ ap (option_map fault_told) c.in_default.is in
-    let active = update_active c.self.inside.streams c.args.view.id c.requires.of_stream passes in
+    let active = update_active c.self.inside.drained c.self.inside.streams c.args.view.id c.requires.of_stream passes in
     let count : c.args.increment ≡ increment frame = c.requires.counted ∙ ap increment c.requires.kind in
     let code : first_of (fault_if (increment frame == 0) (Stream 1) ∷ fault_if (is_past (window_in c.self.inside.settings (find c.self.inside.streams c.args.view.id) +ℤ pos (increment frame))) (Stream 3) ∷ []) ≡ Some (Stream c.in-Some-update_code.code) =
     ap (λ (n : ℕ). first_of (fault_if (n == 0) (Stream 1) ∷ fault_if (is_past (window_in c.self.inside.settings (find c.self.inside.streams c.args.view.id) +ℤ pos n)) (Stream 3) ∷ [])) (sym count)
@@ -105,9 +105,9 @@ returns-clause-judged c = λ setup outside.
     let i : Inbound = the_view c.self.inside in
     let frame : Frame = update c.args.view.flags c.args.view.id c.args.view.payload.now in
     let sound : IsSound i frame = subst (λ (f : Frame). IsSound i f) c.requires.kind (subst (λ (x : Inbound). IsSound x (frame_of c.args.view)) (sym c.self.view_is) c.requires.sound) in
-    let passes : fault_by (asked.verdict c.self.inside.streams c.args.view.id 8) ≡ None =
+    let passes : fault_by (asked.verdict c.self.inside.drained c.self.inside.streams c.args.view.id 8) ≡ None =
     ap fault_by (sym c.verdict.ensures.is) ∙ sym c.fault_of.ensures ∙ ap (option_map fault_told) c.in_default.is in
-    let active = update_active c.self.inside.streams c.args.view.id c.requires.of_stream passes in
+    let active = update_active c.self.inside.drained c.self.inside.streams c.args.view.id c.requires.of_stream passes in
     let count : c.args.increment ≡ increment frame = c.requires.counted ∙ ap increment c.requires.kind in
     let right = neither_wrong (increment frame == 0) (is_past (window_in c.self.inside.settings (find c.self.inside.streams c.args.view.id) +ℤ pos (increment frame))) (Stream 1) (Stream 3) (
     ap (λ (n : ℕ). first_of (fault_if (n == 0) (Stream 1) ∷ fault_if (is_past (window_in c.self.inside.settings (find c.self.inside.streams c.args.view.id) +ℤ pos n)) (Stream 3) ∷ [])) (sym count)

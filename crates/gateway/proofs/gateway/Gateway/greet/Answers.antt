@@ -1,8 +1,9 @@
-use Rattle.std.specs.Prelude.{nat_lt}
 use Rattle.std.proofs.Common.{◌≡◌, true, false, ap, subst, sym, ◌∙◌}
-use Rattle.model.specs.Limits.{most_untaken}
+use Rattle.model.specs.Setup.{Setup}
+use Rattle.refinement.specs.View.{View}
+use Rattle.refinement.specs.Rest.{Reached}
 use Rattle.event_handlers.specs.Resting.{IsSettled}
-use Rattle.gateway.specs.Stands.{Standing, IsFresh}
+use Rattle.gateway.specs.Stands.{Standing, IsFresh, pending_in}
 use Rattle.gateway.specs.Receiving.{Greets}
 use Rattle.gateway.proofs.Pieces.{greets_none, greets_first}
 use Rattle.gateway.specs.declared.phase.Phase.{Phase}
@@ -27,12 +28,29 @@ returns-in_ok-greet c =
     rw (← c.self.view_is) (greets_first _ c.greet.new.session c.args.out.now c.greet.new.out (ap (λ (g : Standing). g.phase) c.self.view_is ∙ new) (subst (λ (g : Standing). IsSettled g.kept) (sym c.self.view_is) c.requires.settled) c.requires.nothing c.in_ok-greet.ensures.performs c.in_ok-greet.ensures.puts c.in_ok-greet.ensures.counts)
 
 -- nothing was put out yet
-pub greet-requires : goal.greet-requires
-greet-requires c =
+pub greet-requires-clause-fresh : goal.greet-requires-clause-fresh
+greet-requires-clause-fresh c =
     let new : c.args.self.now.phase ≡ phase.New =
     elim c.match-matches.branch [
       | in-New w ↦ ap (λ (g : Standing). g.phase) (sym c.self.view_is) ∙ w.in-New.is
       | in_default w ↦ absurd (let both : true ≡ false = sym c.if-matches.true ∙ w.matches-is in cc)
     ] in
-    let none : c.args.self.now.kept.untaken ≡ 0 = subst (λ (p : Phase). IsFresh p c.args.self.now.kept) new c.requires.fresh in
-    ap (nat_lt most_untaken) (ap (λ (g : Standing). g.kept.untaken) c.self.view_is ∙ none)
+    ap (λ (g : Standing). g.kept.untaken) c.self.view_is ∙ subst (λ (p : Phase). IsFresh p c.args.self.now.kept) new c.requires.fresh
+
+-- something may come in
+pub greet-requires-clause-goes_on : goal.greet-requires-clause-goes_on
+greet-requires-clause-goes_on c = (subst (λ (g : Standing). IsSettled g.kept) (sym c.self.view_is) c.requires.settled).rest.goes_on
+
+-- the settings are owed
+pub greet-requires-clause-reached : goal.greet-requires-clause-reached
+greet-requires-clause-reached c =
+    let new : c.args.self.now.phase ≡ phase.New =
+    elim c.match-matches.branch [
+      | in-New w ↦ ap (λ (g : Standing). g.phase) (sym c.self.view_is) ∙ w.in-New.is
+      | in_default w ↦ absurd (let both : true ≡ false = sym c.if-matches.true ∙ w.matches-is in cc)
+    ] in
+    let setup = c.requires.reached.0 in (
+      setup,
+      subst (λ (p : Phase). Reached setup c.self.inside.session (pending_in setup.more_room p)) new
+          (subst (λ (g : Standing). Reached setup g.kept (pending_in setup.more_room c.args.self.now.phase)) (sym c.self.view_is) c.requires.reached.1),
+    )

@@ -1,5 +1,5 @@
 use Rattle.std.proofs.Common.{refl, sym, ◌∙◌, ap}
-use Rattle.model.specs.Logs.Event.{ClientEnd, ClientTook, Up, UpEnd, UpFailed, UpTook}
+use Rattle.model.specs.Logs.Event.{ClientEnd, ClientTook, Up, UpEnd, UpFailed, UpTook, Drain}
 use Rattle.effects.specs.Views.{event_of}
 use Rattle.event_handlers.specs.declared.resting.Onward.TheVariants as answer
 use Rattle.event_handlers.proofs.Results.{if_ok}
@@ -34,3 +34,8 @@ pub returns-in-Up-clause-happens : goal.returns-in-Up-clause-happens
 returns-in-Up-clause-happens c =
     rw (← c.self.view_is) (if_ok c.hear.result
     (λ went comes. hears_by _ c.hear.new.session went c.args.out.now c.hear.new.out (Up c.in-Up.k c.deref-in-Up.result.now) (event_of c.args.event.now) (ap event_of c.in-Up.is ∙ ap (Up c.in-Up.k) (sym c.deref-in-Up.ensures.value)) refl (λ setup serves. comes setup (serves.keep, serves.most_idle))) c.hear.ensures.comes)
+
+pub returns-in-Drain-clause-happens : goal.returns-in-Drain-clause-happens
+returns-in-Drain-clause-happens c =
+    rw (← c.self.view_is) (if_ok c.drain.result
+    (λ went comes. hears_by _ c.drain.new.session went c.args.out.now c.drain.new.out Drain (event_of c.args.event.now) (ap event_of c.in-Drain.is) refl (λ setup serves. comes setup)) c.drain.ensures.comes)

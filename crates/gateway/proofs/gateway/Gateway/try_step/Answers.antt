@@ -16,6 +16,13 @@ greet-requires-clause-fresh c =
     let goes = (and_parts (is_open c.args.self.now.phase) (admits_kept c.args.self.now.kept (event_of c.args.event.now)) c.requires.admitted).0 in
     (open_in c.args.self.now.phase st.0 c.args.self.now.partial c.args.self.now.kept (client_in st.1) st.2 goes st.3.is_in).fresh
 
+pub greet-requires-clause-reached : goal.greet-requires-clause-reached
+greet-requires-clause-reached c =
+    let st = c.requires.stands in
+    let goes = (and_parts (is_open c.args.self.now.phase) (admits_kept c.args.self.now.kept (event_of c.args.event.now)) c.requires.admitted).0 in
+    let o = open_in c.args.self.now.phase st.0 c.args.self.now.partial c.args.self.now.kept (client_in st.1) st.2 goes st.3.is_in in
+    (st.0, (st.2, o.state, o.leads))
+
 pub happen-requires-clause-reached : goal.happen-requires-clause-reached
 happen-requires-clause-reached c =
     let st = c.requires.stands in

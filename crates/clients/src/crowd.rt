@@ -306,9 +306,10 @@ impl<'a> Crowd<'a> {
         requires { place < vec_len self.old.clients }
         ensures { IfErr result (λ stop. 2 ≤ status_of stop) }
     {
+        let is_alone = self.clients.len() == 1;
         let client = &mut self.clients[place];
         client.is_queued = false;
-        let (remaining, outcome) = client.go_on(common, &mut self.buffer, is_told);
+        let (remaining, outcome) = client.go_on(common, &mut self.buffer, is_told, is_alone);
         if let Some(outcome) = outcome {
             self.leaving = self.leaving.saturating_add(1);
             note_end(common, client, &outcome)?;

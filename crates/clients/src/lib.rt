@@ -7,6 +7,7 @@ mod crowd;
 mod entrance;
 mod listening;
 mod log;
+mod pace;
 mod watched;
 
 pub use client::Common;

@@ -13,3 +13,4 @@ mod watched;
 pub use client::Common;
 pub use crowd::{Crowd, serve_crowd};
 pub use listening::{serve_at, serve_clients};
+pub use pace::Pace;

@@ -238,6 +238,18 @@ impl<'a> Client<'a> {
     }
 }
 
+impl<'a> Client<'a> {
+    /// Ends connections to servers that were idle for so long.
+    pub fn end_idle(&mut self, now: Instant, most: Duration) {
+        if let Some(serving) = &mut self.serving {
+            serving
+                .sockets
+                .world
+                .note_idle(serving.service.idle(), now, most);
+        }
+    }
+}
+
 impl<'a> Serving<'a> {
     /// Serving begins, for so many turns at most, in a world that wasn't asked for anything yet.
     fn begin(service: Service, sockets: WatchedSockets<'a>, turns: u32) -> Serving<'a>

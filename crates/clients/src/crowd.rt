@@ -22,7 +22,8 @@ use std::{io, net};
 /// So often in a row reports are looked for at most, before clients have turns.
 const MOST_LOOKS: u32 = 64;
 
-/// After so many seconds it is looked after clients that are idle or being left.
+/// After so many seconds it is looked after clients that are idle or being left, and after idle
+/// connections to servers.
 const TICK: u64 = 1;
 
 /// The clients that are there, and those that come. All are served if rounds are taken until it is
@@ -150,7 +151,7 @@ impl<'a> Crowd<'a> {
 
     /// Whether something is to be done where only time passes.
     fn is_ticking(&self, setting: &Setting) -> bool {
-        self.leaving > 0 || setting.idle > 0 || self.entrance.is_paused()
+        self.leaving > 0 || setting.idle > 0 || setting.keep_idle > 0 || self.entrance.is_paused()
     }
 
     /// Heeds what was reported, and looks again as long as so many sockets were that others may
@@ -277,7 +278,7 @@ impl<'a> Crowd<'a> {
         }
         self.ticked = Some(now);
         self.entrance.resume();
-        look_after_all(&mut self.clients, now, common.setting.idle, &mut self.queue)
+        look_after_all(&mut self.clients, now, common.setting, &mut self.queue)
     }
 
     /// Each client that has something left has turns, and stands behind the others then if it has
@@ -383,22 +384,23 @@ fn join(client: &mut Client<'_>, queue: &mut VecDeque<u32>) -> Result<(), Stop>
 fn look_after_all(
     clients: &mut [Client<'_>],
     now: Instant,
-    idle_seconds: u32,
+    setting: &Setting,
     queue: &mut VecDeque<u32>,
 ) -> Result<(), Stop>
     ensures { IfErr result (λ stop. 2 ≤ status_of stop) }
 {
     for client in clients {
-        look_after(client, now, idle_seconds, queue)?;
+        look_after(client, now, setting, queue)?;
     }
     Ok(())
 }
 
-/// A client that is being left goes on with that, and one that is idle for too long is ended.
+/// A client that is being left goes on with that, one that is idle for too long is ended, and so
+/// are connections to servers that are.
 fn look_after(
     client: &mut Client<'_>,
     now: Instant,
-    idle_seconds: u32,
+    setting: &Setting,
     queue: &mut VecDeque<u32>,
 ) -> Result<(), Stop>
     ensures { IfErr result (λ stop. 2 ≤ status_of stop) }
@@ -406,8 +408,11 @@ fn look_after(
     if client.is_left() {
         return join(client, queue);
     }
-    if idle_seconds > 0 {
-        client.watch(now, Duration::from_secs(u64::from(idle_seconds)));
+    if setting.idle > 0 {
+        client.watch(now, Duration::from_secs(u64::from(setting.idle)));
+    }
+    if setting.keep_idle > 0 {
+        client.end_idle(now, Duration::from_secs(u64::from(setting.keep_idle)));
     }
     Ok(())
 }

@@ -15,7 +15,7 @@ ghost use Rattle.std.specs.List.{Contains};
 use crate::buffer::Buffer;
 use crate::departure::leave_on;
 use crate::leaving::Leaving;
-use crate::queues::{CLIENT, heed, heed_all, join_ready, list, place_of, take_next};
+use crate::queues::{CLIENT, heed, heed_all, join_ready, list, note_idle_all, place_of, take_next};
 use crate::reporting::{Reporting, number_in};
 use crate::rooms::room_of;
 use crate::side::Side;
@@ -507,6 +507,16 @@ impl<'a, N: Net + Clock, S: Wire> Sockets<'a, N, S> {
             &mut self.ready,
             &mut self.writes,
         )
+    }
+
+    /// Notes of those upstreams that are idle now that they are, and ends those that were for so
+    /// long.
+    pub(crate) fn note_idle(&mut self, idle: &[u32], now: Instant, most: Duration)
+        ensures moves { MovesOn S.left S.held (Ok None) self.old.client self.old.upstreams.items self.new.client self.new.upstreams.items }
+        ensures queued { HasQueued self.old → HasQueued self.new }
+        ensures stays { self.new ≡ record self.old { upstreams = self.new.upstreams } }
+    {
+        note_idle_all(idle, now, most, &mut self.upstreams);
     }
 
     /// Notes what was reported of the client's socket, and writes what waits for it, if it takes

@@ -27,7 +27,7 @@ use mio::Registry;
 use mio::event::Event as Report;
 use std::alloc::Global;
 use std::net::{Net, SocketAddr};
-use std::time::{Clock, Instant};
+use std::time::{Clock, Duration, Instant};
 use std::{io, mem};
 
 /// One client, and the upstreams that are opened for it, over sockets that don't wait. It stores no
@@ -180,6 +180,21 @@ impl<'a, N: Net + Clock, S: Wire> SocketWorld<'a, N, S> {
     {
         self.is_quiet = false;
         self.sockets.hear(report)
+    }
+
+    /// Notes that these connections are idle now. One of which that was noted for so long, and for
+    /// which nothing was put out since, ends as where its server had ended it: what its server sent
+    /// before is still read.
+    pub fn note_idle(&mut self, idle: &[u32], now: Instant, most: Duration)
+        ensures calls { self.new.calls ≡ self.old.calls }
+        ensures failures { self.new.failures ≡ self.old.failures }
+        ensures client { self.new.sockets.client ≡ self.old.sockets.client }
+        ensures moves { MovesOn S.left S.held (Ok None) self.old.sockets.client self.old.sockets.upstreams.items self.new.sockets.client
+            self.new.sockets.upstreams.items }
+        ensures queued { HasQueued self.old.sockets → HasQueued self.new.sockets }
+        ensures quiet { self.new.is_quiet ≡ self.old.is_quiet }
+    {
+        self.sockets.note_idle(idle, now, most);
     }
 
     /// Ends what the client sends: what came of it before is still read, and then its end, as where

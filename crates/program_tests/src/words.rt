@@ -81,8 +81,8 @@ fn the_gateway_reads_its_words(rt: HostRuntime) -> Result<(), Fail> {
             assert_eq!(rt; values.listen.as_str(), "127.0.0.1:80");
             assert_eq!(rt; (values.connections, values.turns), (0, 4294967295));
             assert_eq!(rt;
-                (values.clients, values.idle, values.is_logged),
-                (1, 0, false)
+                (values.clients, values.idle, values.keep_idle, values.is_logged),
+                (1, 0, 0, false)
             );
         }
         Err(fault) => panic!(rt; "{fault:?}"),

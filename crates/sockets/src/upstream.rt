@@ -189,13 +189,13 @@ impl<S: Wire> Upstream<S> {
         ensures sends { OnOk result (Sends S.left S.held octets.now self.old self.new) }
         ensures stands { (self.new.is_queued ≡ self.old.is_queued) × (self.new.is_listed ≡ self.old.is_listed) }
     {
-        self.idle_since = None;
         if self.is_deaf() {
             return Ok(());
         }
         let Some(side) = &mut self.side else {
             return Ok(());
         };
+        self.idle_since = None;
         match side.put(registry, octets) {
             Ok(()) => Ok(()),
             Err(PutFault::Socket(error)) => {

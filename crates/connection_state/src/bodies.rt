@@ -15,8 +15,7 @@ use streams::{Course, Live};
 
 /// The code of the error of an active stream that DATA is, if it is one (RFC 9113, sections 5.1,
 /// 6.9.1 and 8.1.1): with a payload for which the stream has no room, where windows begin with so
-/// many octets, behind its end, or with
-/// content that makes the request malformed.
+/// many octets, behind its end, or with content that makes the request malformed.
 pub fn body_code(live: &Live, own: u32, size: u32, count: u32, ends: bool) -> Option<u32>
     ensures { (octets : List ℕ) → length octets ≡ count → option_map Stream result
         ≡ first_of (fault_if (int_lt (room_in own live.now) (pos size)) (Stream flow_control_error) ∷ fault_if live.now.ended_by_client (Stream stream_closed)

@@ -44,7 +44,7 @@ pub enum Peer {
     Client,
     /// An upstream's, by its number: its octets, its end, or its failure.
     Upstream(u32),
-    /// The world's own, which tells that octets were taken.
+    /// The world's own, which tells that octets were taken, or that the operator wants the end.
     World,
 }
 

@@ -1,9 +1,9 @@
 //! The end of a connection to a client: GOAWAY where the client made an error of the connection
 //! (RFC 9113, section 5.4.1), a close for each connection to an upstream, and the client's own.
 //!
-//! [`end`] is for what comes in and ends the connection, [`shut`] for a connection whose streams
-//! were all opened and are over, and `calm` for one that ends in place of a frame, since too many
-//! octets for the client are untaken.
+//! [`end`] is for what comes in and ends the connection, [`shut`] for a connection on which no
+//! stream may be opened and none is active, and `calm` for one that ends in place of a frame, since
+//! too many octets for the client are untaken.
 
 ghost use Rattle.std.specs.Prelude.{List};
 ghost use Rattle.model.specs.Setup.{Setup};

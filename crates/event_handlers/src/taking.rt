@@ -240,8 +240,9 @@ fn take_fragment(
     }
 }
 
-/// Says GOAWAY behind the last stream that a connection may have, where that is owed: before what
-/// is due of its request (RFC 9113, section 6.8).
+/// Says GOAWAY with the last stream, where that is owed: behind the last that a connection may
+/// have, before what is due of its request, or where the operator wants the end (RFC 9113, section
+/// 6.8).
 pub(crate) fn say_goaway(
     session: &mut Session,
     last: Option<u32>,

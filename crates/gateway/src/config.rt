@@ -61,7 +61,7 @@ pub struct Config {
     /// is closed behind its response.
     pub idle: u8,
     /// The octets that receiving windows have at first, those of streams and that of the connection
-    /// (RFC 9113, section 6.9.2): at most 1,048,576, and never fewer than 65,535.
+    /// (RFC 9113, section 6.9.2): at most 1,048,576; fewer than 65,535 count as that.
     pub window: u32,
 }
 

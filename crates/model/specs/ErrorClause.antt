@@ -32,7 +32,8 @@ rst_stream stream code = record { kind = rst_stream_kind; flags = 0; id = stream
 abbrev pub ping_ack : List ℕ → Frame
 ping_ack octets = record { kind = ping_kind; flags = 1; id = 0; payload = octets }
 
--- the GOAWAY that the last stream calls for which a connection may have: an entry opens it
+-- the GOAWAY that an entry calls for behind which no stream may be opened, where one might before: it opens the last that a connection may have,
+-- or is the operator's wish for the end
 abbrev pub last_goaway : List Entry → Entry → List Frame
 last_goaway t e =
     if opens_last t e
@@ -166,7 +167,7 @@ abbrev pub newest_goaway : List Entry → List Frame
 newest_goaway [] = []
 newest_goaway (e ∷ t) = last_goaway t e
 
--- No act stands right behind the entry that opens the last stream. So the GOAWAY does, before all that the stream's head causes
+-- No act stands right behind the entry that calls for that GOAWAY. So the GOAWAY does, before all that the head of the last stream causes
 -- (section 6.8).
 abbrev pub GoawaysComeFirst : List Entry → Type 0
 GoawaysComeFirst [] = Unit {0}
@@ -245,7 +246,7 @@ EndsInTime known (Did act ∷ t) = EndsInTime known t
 EndsInTime known (e ∷ t) = (must_end known t ≡ false) × EndsInTime known t
 
 -- The first frame is the gateway's settings. Beside parts of responses and octets given back, just what is owed was sent, and
--- what an entry calls for before all else came next; the GOAWAY of the last stream came before any act. The client is closed just
+-- what an entry calls for before all else came next; the GOAWAY behind which none is opened came before any act. The client is closed just
 -- where the connection is to end.
 pub record ErrorsHold (known : Known) (t : List Entry) : Type 0 where
   pub begins : (newer : List Frame) × (map (λ noted. noted.frame) (sent t) ≡ newer ++ settings_frame known.setup.more_room ∷ [])

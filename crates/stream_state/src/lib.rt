@@ -57,8 +57,8 @@ impl Streams {
     }
 
     /// What comes of a frame on this id by the state of its stream (RFC 9113, sections 5.1, 5.1.1
-    /// and 5.1.2). An id above that of the 10,000th stream is one that a GOAWAY with NO_ERROR has
-    /// ruled out (RFC 9113, section 6.8).
+    /// and 5.1.2). An id above that of the 10,000th stream, and above all where the connection is
+    /// drained, is one that a GOAWAY with NO_ERROR has ruled out (RFC 9113, section 6.8).
     ///
     /// DATA and RST_STREAM on 0, which the id alone is against, pass here: they are judged before
     /// (RFC 9113, sections 6.1 and 6.4). Where the answer is `Open`, or REFUSED_STREAM for want of

@@ -102,7 +102,7 @@ drained_after before _ = before
 abbrev pub highest_in : List ℕ → ℕ
 highest_in opened = fold max 0 opened
 
--- the GOAWAY that the last stream calls for
+-- the GOAWAY that the last stream calls for, or the operator's wish for the end
 abbrev pub last_goaway_in : Summary → Entry → List Frame
 last_goaway_in s e =
     if are_last s (drained_after s.drained e) (opened_after s e)

@@ -76,7 +76,7 @@ module _ (rows : List Row) (id count : ℕ) (live : is_active rows id ≡ true) 
   pub served_stays : (other : ℕ) → is_served given other ≡ is_served rows other
   served_stays other = ap (λ b. b && is_none (find given other).outline.cause) (active_stays other) ∙ ap (λ b. is_active rows other && b) (stays (λ k. is_none k.outline.cause) (λ k. refl) other)
 
-  -- whether all streams were opened and none is active
+  -- whether none may be opened and none is active
   pub exhausted_stays : (drained : Bool) (most : ℕ) → ((drained || length (ids_of given) == most) && length (filter (λ n. not (is_over_in (find given n))) (ids_of given)) == 0) ≡ ((drained || length (ids_of rows) == most) && length (filter (λ n. not (is_over_in (find rows n))) (ids_of rows)) == 0)
   exhausted_stays drained most =
       ap (λ (ids : List ℕ). (drained || length ids == most) && length (filter (λ n. not (is_over_in (find given n))) ids) == 0) (same_ids id (slot_of (given_back count (find rows id))) rows)

@@ -29,7 +29,7 @@ IsShort (control.Reset stream code) = stream < 2147483648
 IsShort (control.Update stream octets) = stream < 2147483648
 IsShort control = Unit {0}
 
--- It may be owed, and changes no stream: a GOAWAY only behind the last stream, without an error.
+-- It may be owed, and changes no stream: a GOAWAY only behind the last stream or the operator's wish for the end, without an error.
 abbrev pub IsOwed : Control → Type 0
 IsOwed (control.Reset stream code) = ⊥
 IsOwed (control.Update stream octets) = ⊥

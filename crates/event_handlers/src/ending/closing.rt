@@ -64,9 +64,9 @@ pub(crate) fn calm(session: &mut Session, out: &mut Outputs) -> Result<(), Alloc
     close_all(&session.upstreams, out)
 }
 
-/// Shuts a connection that is spent: all streams that it may have were opened, and none is active
-/// any more. It closes each open connection to an upstream, and the client's. What is kept is of no
-/// use behind it, whatever it answers. An `Err` says that memory was refused.
+/// Shuts a connection that is spent: no stream may be opened any more, and none is active. It
+/// closes each open connection to an upstream, and the client's. What is kept is of no use behind
+/// it, whatever it answers. An `Err` says that memory was refused.
 pub fn shut(session: &mut Session, out: &mut Outputs) -> Result<(), AllocError>
     requires exhausted { (told_view session.old).ends ≡ true }
     ensures { OnOk result ((setup : Setup) (run : List Move) (s : State) (fresh back : ℕ)

@@ -47,6 +47,8 @@ fn setting_of(alloc: Global, connections: u32, turns: u32) -> Setting
         clients: 1,
         idle: 0,
         keep_idle: 0,
+        connect: 0,
+        answer: 0,
         is_logged: false,
     }
 }

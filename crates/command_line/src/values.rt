@@ -34,6 +34,8 @@ impl Word {
             Word::Clients => "clients",
             Word::Idle => "idle",
             Word::KeepIdle => "keep-idle",
+            Word::Connect => "connect",
+            Word::Answer => "answer",
             Word::Log => "log",
         }
     }

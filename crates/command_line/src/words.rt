@@ -21,6 +21,10 @@ pub enum Word {
     Idle,
     /// `--keep-idle SECONDS`: for how many seconds a connection to a server may be idle.
     KeepIdle,
+    /// `--connect SECONDS`: for how many seconds a connection to a server may take to come about.
+    Connect,
+    /// `--answer SECONDS`: for how many seconds a server may send nothing of a response.
+    Answer,
     /// `--log`: whether exchanges with servers and connections are told of.
     Log,
 }

@@ -50,6 +50,8 @@ IsCountValue value.Turns = ⊤
 IsCountValue value.Clients = ⊤
 IsCountValue value.Idle = ⊤
 IsCountValue value.KeepIdle = ⊤
+IsCountValue value.Connect = ⊤
+IsCountValue value.Answer = ⊤
 IsCountValue word = ⊥
 
 -- Why the command line isn't taken. Which arguments the program has isn't told.

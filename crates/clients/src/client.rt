@@ -6,6 +6,7 @@ ghost use Rattle.gateway.specs.Setups.{setup_of, IsServable};
 
 use crate::log::say_exchanges;
 use crate::pace::Pace;
+use crate::waits::{Limits, Waits};
 use crate::watched::Watched;
 use driver::{ServeFault, Service, ServiceEnd, WorldFault};
 use exchange_log::Exchanges;
@@ -111,6 +112,15 @@ fn exchanges_for(alloc: Global, setting: &Setting) -> Option<Exchanges>
     Some(Exchanges::new(alloc, most))
 }
 
+/// Where it is noted since when servers are waited for, if it is.
+fn waits_for(alloc: Global, setting: &Setting) -> Option<Waits> {
+    if Limits::of(setting).are_some() {
+        Some(Waits::new(alloc))
+    } else {
+        None
+    }
+}
+
 impl<'a> Client<'a> {
     /// A client that came, with this number, from 1 on. An error is the socket's or the clock's, or
     /// says that memory was refused.
@@ -134,7 +144,9 @@ impl<'a> Client<'a> {
             number,
             socket,
         )?;
-        let sockets = Watched::new(common.rt, world, exchanges_for(alloc, common.setting));
+        let exchanges = exchanges_for(alloc, common.setting);
+        let waits = waits_for(alloc, common.setting);
+        let sockets = Watched::new(common.rt, world, exchanges, waits);
         let serving = Serving::begin(service, sockets, common.setting.turns);
         Ok(Client {
             number,
@@ -243,6 +255,15 @@ impl<'a> Client<'a> {
             serving.end_idle(now, most);
         }
     }
+
+    /// Fails connections to servers that were waited for too long. The answer is whether one is. An
+    /// error says that the client is lost.
+    pub fn look(&mut self, now: Instant, limits: &Limits) -> Result<bool, WorldFault> {
+        match &mut self.serving {
+            Some(serving) => serving.look(now, limits),
+            None => Ok(false),
+        }
+    }
 }
 
 impl<'a> Serving<'a> {
@@ -262,6 +283,11 @@ impl<'a> Serving<'a> {
     /// Ends connections to servers that were idle for so long.
     fn end_idle(&mut self, now: Instant, most: Duration) {
         self.sockets.world.note_idle(self.service.idle(), now, most);
+    }
+
+    /// Fails connections to servers that were waited for too long. The answer is whether one is.
+    fn look(&mut self, now: Instant, limits: &Limits) -> Result<bool, WorldFault> {
+        self.sockets.look(self.service.idle(), now, limits)
     }
 
     /// Takes a round of turns, with a buffer that was lent for that.

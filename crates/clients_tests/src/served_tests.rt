@@ -23,7 +23,7 @@ const ANSWER: &[u8] =
     b"\0\0\x0c\x04\0\0\0\0\0\0\x03\0\0\0\x64\0\x06\0\0\x40\0\0\0\0\x04\x01\0\0\0\0\0\0\x05\x01\x05\0\0\0\x01\x8d\x0f\x0d\x01\x30";
 
 /// What a client is sent whose upstream answers what is no response: the status 502 in place of 404.
-const BAD_ANSWER: &[u8] =
+pub(crate) const BAD_ANSWER: &[u8] =
     b"\0\0\x0c\x04\0\0\0\0\0\0\x03\0\0\0\x64\0\x06\0\0\x40\0\0\0\0\x04\x01\0\0\0\0\0\0\x09\x01\x05\0\0\0\x01\x08\x03502\x0f\x0d\x01\x30";
 
 /// The gateway's settings alone.
@@ -54,7 +54,7 @@ fn setting_of(alloc: Global, connections: u32, turns: u32) -> Setting
 }
 
 /// A client that has sent a request, and ends.
-fn client_at(rt: &HostRuntime, listener: &TcpListener) -> io::Result<TcpStream> {
+pub(crate) fn client_at(rt: &HostRuntime, listener: &TcpListener) -> io::Result<TcpStream> {
     let mut client = TcpStream::connect(rt, listener.local_addr()?)?;
     client.write_all(REQUEST)?;
     client.shutdown(Shutdown::Write)?;
@@ -62,7 +62,7 @@ fn client_at(rt: &HostRuntime, listener: &TcpListener) -> io::Result<TcpStream> 
 }
 
 /// All that a client reads until its connection ends.
-fn read_by(alloc: Global, client: &mut TcpStream) -> io::Result<Vec<u8>> {
+pub(crate) fn read_by(alloc: Global, client: &mut TcpStream) -> io::Result<Vec<u8>> {
     let mut read = Vec::new(alloc);
     client.read_to_end(&mut read)?;
     Ok(read)
@@ -126,7 +126,7 @@ fn what_clients_are_sent_goes_out_where_their_turns_end(rt: HostRuntime) -> Resu
 }
 
 /// A setting for two clients, both at once, who may be idle for a second. Requests go to an upstream at this address.
-fn setting_by(alloc: Global, upstream: SocketAddr) -> Result<Setting, AllocError>
+pub(crate) fn setting_by(alloc: Global, upstream: SocketAddr) -> Result<Setting, AllocError>
     ensures { IfOk result (λ setting. IsServable (setup_of setting.config)) }
 {
     let mut setting = setting_of(alloc, 2, 100);

@@ -198,6 +198,21 @@ impl<'a, N: Net + Clock, S: Wire> SocketWorld<'a, N, S> {
         self.sockets.note_idle(idle, now, most);
     }
 
+    /// A connection is waited for no longer: it counts as failed, if it is open, unless something
+    /// may be read of it, and that is told in its turn. The answer is whether it does by now. An
+    /// `Err` says that memory was refused: then the client is lost.
+    pub fn give_up(&mut self, k: u32) -> Result<bool, WorldFault>
+        ensures calls { self.new.calls ≡ self.old.calls }
+        ensures failures { self.new.failures ≡ self.old.failures }
+        ensures moves { MovesOn S.left S.held (Ok None) self.old.sockets.client self.old.sockets.upstreams.items self.new.sockets.client
+            self.new.sockets.upstreams.items }
+        ensures queued { OnOk result (HasQueued self.old.sockets → HasQueued self.new.sockets) }
+        ensures quiet { self.new.is_quiet ≡ false }
+    {
+        self.is_quiet = false;
+        self.sockets.give_up(k)
+    }
+
     /// Ends what the client sends: what came of it before is still read, and then its end, as where
     /// it had ended that itself.
     pub fn end_client(&mut self) -> io::Result<()>

@@ -3,18 +3,17 @@
 ghost use Rattle.std.specs.Prelude.{◌≡◌, IfOk};
 ghost use Rattle.gateway.specs.Setups.{setup_of, IsServable};
 
-use crate::served_tests::{BAD_ANSWER, client_at, read_by, setting_by};
+use crate::served_tests::{REQUEST, setting_by};
 use clients::{Common, Crowd, Limits, Wait};
 use gateway::Passing;
 use h2gw_setup::setting::Setting;
 use h2gw_setup::stops::Stop;
 use mio::net::TcpStream as Waiting;
 use sockets::Reactor;
-use std::alloc::Global;
+use std::alloc::{AllocError, Global};
 use std::io;
-use std::io::Write;
-use std::net::{Ipv4Addr, SocketAddr, TcpListener, TcpStream};
-use std::process::Abort;
+use std::io::{Read, Write};
+use std::net::{Ipv4Addr, Shutdown, SocketAddr, TcpListener, TcpStream};
 use std::test::*;
 use std::time::{Clock, Duration, Instant};
 
@@ -79,8 +78,8 @@ fn waits_are_limited(rt: HostRuntime) -> Result<(), Fail> {
     Ok(())
 }
 
-/// In so many rounds a client is served at most.
-const MOST_ROUNDS: u32 = 100;
+/// In so many rounds a client is served at most. One in which nothing happens takes a second.
+const MOST_ROUNDS: u32 = 40;
 
 /// What a server sends of a response, if it sends something.
 const PART: &[u8] = b"HTTP/1.1 200 OK\r\ncontent-length: 9\r\n\r\npart";
@@ -107,6 +106,33 @@ impl Server {
     }
 }
 
+/// A client that asked, and ends once it has read what ends so.
+#[derive(Drop)]
+struct Asker {
+    socket: TcpStream,
+    read: Vec<u8>,
+    wanted: &'static [u8],
+}
+
+impl Asker {
+    /// It reads what is there.
+    fn go_on(&mut self) -> io::Result<()> {
+        let mut room = [0u8; 1024];
+        if let Ok(count) = self.socket.read(&mut room) {
+            self.read.extend_from_slice(&room[..count])?;
+        }
+        if self.has_answer() {
+            self.socket.shutdown(Shutdown::Write)?;
+        }
+        Ok(())
+    }
+
+    /// Whether it has read what it wants.
+    fn has_answer(&self) -> bool {
+        self.read.as_slice().ends_with(self.wanted)
+    }
+}
+
 /// A listener that doesn't wait.
 fn listener_of(host: &HostRuntime) -> io::Result<TcpListener> {
     let listener = TcpListener::bind(host, SocketAddr::from((Ipv4Addr::LOCALHOST, 0)))?;
@@ -114,40 +140,54 @@ fn listener_of(host: &HostRuntime) -> io::Result<TcpListener> {
     Ok(listener)
 }
 
-/// Serves clients by the program's loop, where a server does before each round what it can, if it
-/// does something.
+/// A client that has asked at this address, and wants what ends so.
+fn asker_at(host: &HostRuntime, here: SocketAddr, wanted: &'static [u8]) -> io::Result<Asker> {
+    let mut socket = TcpStream::connect(host, here)?;
+    socket.write_all(REQUEST)?;
+    socket.set_nonblocking(true)?;
+    Ok(Asker {
+        socket,
+        read: Vec::new(host.alloc()),
+        wanted,
+    })
+}
+
+/// Serves a client by the program's loop until it has what it wants, and is left, where it and a
+/// server do before each round what they can.
 fn take_rounds(
     common: &Common<'_>,
     reactor: &mut Reactor,
     listener: mio::net::TcpListener,
+    asker: &mut Asker,
     server: &mut Option<Server>,
-) -> Result<bool, Stop>
+) -> Result<(), Stop>
     requires { IsServable (setup_of common.now.setting.now.config) }
 {
     let mut crowd = Crowd::new(common, listener)?;
     for _ in 0..MOST_ROUNDS {
         if crowd.is_over() {
-            return Ok(true);
+            break;
         }
         if let Some(server) = server {
             let _ = server.go_on();
         }
+        let _ = asker.go_on();
         crowd.take_round(common, reactor)?;
     }
-    Ok(false)
+    Ok(())
 }
 
-/// What one client is sent that asks, and ends.
-fn answer_by(
-    rt: &impl Abort,
+/// Whether a client that asks is sent what ends so.
+fn is_sent(
     host: &HostRuntime,
     setting: &Setting,
     server: &mut Option<Server>,
-) -> Result<Vec<u8>, Fail>
+    wanted: &'static [u8],
+) -> Result<bool, Fail>
     requires { IsServable (setup_of setting.now.config) }
 {
     let listener = listener_of(host)?;
-    let mut client = client_at(host, &listener)?;
+    let mut asker = asker_at(host, listener.local_addr()?, wanted)?;
     let mut reactor = Reactor::new(host.alloc(), host)?;
     let sources = reactor.sources()?;
     let common = Common {
@@ -156,14 +196,13 @@ fn answer_by(
         registry: &sources,
     };
     let listener = mio::net::TcpListener::from_std(listener);
-    let served = take_rounds(&common, &mut reactor, listener, server);
-    assert!(rt; served.unwrap_or(false));
-    Ok(read_by(host.alloc(), &mut client)?)
+    let served = take_rounds(&common, &mut reactor, listener, &mut asker, server);
+    Ok(served.is_ok() && asker.has_answer())
 }
 
 /// A setting for one client, whose server is at this address, and given a second each to take a
 /// connection and to answer.
-fn setting_at(alloc: Global, server: SocketAddr, passing: Passing) -> Result<Setting, Fail>
+fn setting_at(alloc: Global, server: SocketAddr, passing: Passing) -> Result<Setting, AllocError>
     ensures { IfOk result (λ setting. IsServable (setup_of setting.config)) }
 {
     let mut setting = setting_by(alloc, server)?;
@@ -176,13 +215,13 @@ fn setting_at(alloc: Global, server: SocketAddr, passing: Passing) -> Result<Set
     Ok(setting)
 }
 
-/// What a client is sent whose server accepts, and sends this.
-fn answer_of(
-    rt: &impl Abort,
+/// Whether a client is sent what ends so whose server accepts, and sends this.
+fn is_sent_by(
     host: &HostRuntime,
     sends: &'static [u8],
     passing: Passing,
-) -> Result<Vec<u8>, Fail> {
+    wanted: &'static [u8],
+) -> Result<bool, Fail> {
     let listener = listener_of(host)?;
     let setting = setting_at(host.alloc(), listener.local_addr()?, passing)?;
     let server = Server {
@@ -190,32 +229,30 @@ fn answer_of(
         sends,
         first: None,
     };
-    answer_by(rt, host, &setting, &mut Some(server))
+    is_sent(host, &setting, &mut Some(server), wanted)
 }
+
+/// The end of what a client is sent whose server failed before it had a response.
+const BAD_GATEWAY: &[u8] = b"\x08\x03502\x0f\x0d\x01\x30";
+
+/// Part of a response, and the reset of stream 1 by INTERNAL_ERROR.
+const PART_AND_RESET: &[u8] = b"part\0\0\x04\x03\0\0\0\0\x01\0\0\0\x02";
 
 #[test]
 fn a_server_that_never_answers_has_failed(rt: HostRuntime) -> Result<(), Fail> {
-    let answer = answer_of(&rt, &rt, b"", Passing::Whole)?;
-    assert_eq!(rt; answer.as_slice(), BAD_ANSWER);
+    assert!(rt; is_sent_by(&rt, b"", Passing::Whole, BAD_GATEWAY)?);
     Ok(())
 }
 
 #[test]
 fn so_has_one_that_stops_within_a_body(rt: HostRuntime) -> Result<(), Fail> {
-    let answer = answer_of(&rt, &rt, PART, Passing::Whole)?;
-    assert_eq!(rt; answer.as_slice(), BAD_ANSWER);
+    assert!(rt; is_sent_by(&rt, PART, Passing::Whole, BAD_GATEWAY)?);
     Ok(())
 }
 
-/// The reset of stream 1 by INTERNAL_ERROR.
-const RESET: &[u8] = b"\0\0\x04\x03\0\0\0\0\x01\0\0\0\x02";
-
 #[test]
 fn what_came_by_then_is_passed_on(rt: HostRuntime) -> Result<(), Fail> {
-    let answer = answer_of(&rt, &rt, PART, Passing::Streaming)?;
-    let mut end = Vec::from_slice(rt.alloc(), b"part")?;
-    end.extend_from_slice(RESET)?;
-    assert!(rt; answer.as_slice().ends_with(&end));
+    assert!(rt; is_sent_by(&rt, PART, Passing::Streaming, PART_AND_RESET)?);
     Ok(())
 }
 
@@ -231,7 +268,6 @@ fn a_server_whose_queue_is_full_has_failed(rt: HostRuntime) -> Result<(), Fail> 
         begun.push(Waiting::connect(&rt, here)?)?;
     }
     let setting = setting_at(rt.alloc(), here, Passing::Whole)?;
-    let answer = answer_by(&rt, &rt, &setting, &mut None)?;
-    assert_eq!(rt; answer.as_slice(), BAD_ANSWER);
+    assert!(rt; is_sent(&rt, &setting, &mut None, BAD_GATEWAY)?);
     Ok(())
 }

@@ -14,7 +14,7 @@ use std::process::Abort;
 use std::test::*;
 
 /// The preface, settings without entries, and a GET without a body on stream 1.
-const REQUEST: &[u8] =
+pub(crate) const REQUEST: &[u8] =
     b"PRI * HTTP/2.0\r\n\r\nSM\r\n\r\n\0\0\0\x04\0\0\0\0\0\0\0\x14\x01\x05\0\0\0\x01\x82\x86\x84\x41\x0fwww.example.com";
 
 /// What a client is sent: the gateway's settings, the acknowledgement of its own, and the status
@@ -23,7 +23,7 @@ const ANSWER: &[u8] =
     b"\0\0\x0c\x04\0\0\0\0\0\0\x03\0\0\0\x64\0\x06\0\0\x40\0\0\0\0\x04\x01\0\0\0\0\0\0\x05\x01\x05\0\0\0\x01\x8d\x0f\x0d\x01\x30";
 
 /// What a client is sent whose upstream answers what is no response: the status 502 in place of 404.
-pub(crate) const BAD_ANSWER: &[u8] =
+const BAD_ANSWER: &[u8] =
     b"\0\0\x0c\x04\0\0\0\0\0\0\x03\0\0\0\x64\0\x06\0\0\x40\0\0\0\0\x04\x01\0\0\0\0\0\0\x09\x01\x05\0\0\0\x01\x08\x03502\x0f\x0d\x01\x30";
 
 /// The gateway's settings alone.
@@ -54,7 +54,7 @@ fn setting_of(alloc: Global, connections: u32, turns: u32) -> Setting
 }
 
 /// A client that has sent a request, and ends.
-pub(crate) fn client_at(rt: &HostRuntime, listener: &TcpListener) -> io::Result<TcpStream> {
+fn client_at(rt: &HostRuntime, listener: &TcpListener) -> io::Result<TcpStream> {
     let mut client = TcpStream::connect(rt, listener.local_addr()?)?;
     client.write_all(REQUEST)?;
     client.shutdown(Shutdown::Write)?;
@@ -62,7 +62,7 @@ pub(crate) fn client_at(rt: &HostRuntime, listener: &TcpListener) -> io::Result<
 }
 
 /// All that a client reads until its connection ends.
-pub(crate) fn read_by(alloc: Global, client: &mut TcpStream) -> io::Result<Vec<u8>> {
+fn read_by(alloc: Global, client: &mut TcpStream) -> io::Result<Vec<u8>> {
     let mut read = Vec::new(alloc);
     client.read_to_end(&mut read)?;
     Ok(read)

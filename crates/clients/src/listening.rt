@@ -1,10 +1,11 @@
 //! The connections of clients.
 
-ghost use Rattle.std.specs.Prelude.{◌≡◌, ◌≤◌, ◌&&◌, ◌==◌, IfErr, not};
+ghost use Rattle.std.specs.Prelude.{◌≡◌, ◌+◌, ◌≤◌, ◌↔◌, IfErr, IsTrue, false};
 ghost use Rattle.gateway.specs.Setups.{setup_of, IsServable};
 ghost use Rattle.h2gw_setup.specs.Stops.{status_of};
 
 use crate::crowd::serve_crowd;
+use crate::waits::has_limits;
 use driver::{ServeFault, serve};
 use h2gw_setup::setting::Setting;
 use h2gw_setup::stops::Stop;
@@ -33,14 +34,15 @@ pub fn serve_clients(rt: &HostRuntime, setting: &Setting) -> Result<(), Stop>
     }
 }
 
-/// Whether one client is served after another, however long it says nothing, and none is told of.
+/// Whether one client is served after another, however long anything takes, and none is told of.
 /// This is the default, and has a way of its own (`serve_at`), which is the program's as it was
 /// first described: one client waits for another, an error of accept ends the program, and there is
 /// no reactor.
 fn is_plain(setting: &Setting) -> bool
-    ensures { result ≡ ((setting.now.clients == 1 && setting.now.idle == 0) && not setting.now.is_logged) }
+    ensures { IsTrue result ↔ (setting.now.clients ≡ 1) × (setting.now.idle + setting.now.keep_idle + setting.now.connect + setting.now.answer ≡ 0)
+        × (setting.now.is_logged ≡ false) }
 {
-    setting.clients == 1 && setting.idle == 0 && !setting.is_logged
+    setting.clients == 1 && !has_limits(setting) && !setting.is_logged
 }
 
 /// Serves the connections of clients at a listener, one after another.

@@ -1,5 +1,6 @@
 -- The command line
--- `h2gw --config FILE --listen ADDR --connections N --turns N [--clients N] [--idle SECONDS] [--log]`,
+-- `h2gw --config FILE --listen ADDR --connections N --turns N [--clients N] [--idle SECONDS] [--keep-idle SECONDS]
+-- [--connect SECONDS] [--answer SECONDS] [--log]`,
 -- by `clap`'s meaning of a simple command.
 use Rattle.std.specs.Prelude.{◌≡◌, ◌↔◌, ℕ, IsTrue, List, [], Option, Some, None, IsSome, string_bytes, codes, ⊤}
 use Rattle.clap.specs.Words.{App, Text, new_app, with_rule, matches_of, first_of, fault_of, kind_of, IsAmong, first_value}
@@ -19,15 +20,16 @@ needed_app = with_rule (with_rule (with_rule (with_rule (new_app (codes "h2gw"))
 
 -- the command
 abbrev pub gateway_app : App
-gateway_app = with_rule (with_rule (with_rule needed_app (option_rule value.Clients)) (option_rule value.Idle)) (flag_rule value.Log)
+gateway_app = with_rule (with_rule (with_rule (with_rule (with_rule (with_rule needed_app (option_rule value.Clients)) (option_rule value.Idle))
+    (option_rule value.KeepIdle)) (option_rule value.Connect)) (option_rule value.Answer)) (flag_rule value.Log)
 
 -- how many clients may be served at once, and how many where that isn't said
 abbrev pub clients_range : Range
 clients_range = record { least = 1; most = 1024; absent = 1 }
 
--- for how many seconds a client may be idle
-abbrev pub idle_range : Range
-idle_range = record { least = 0; most = 4294967295; absent = 0 }
+-- for how many seconds something may last
+abbrev pub seconds_range : Range
+seconds_range = record { least = 0; most = 4294967295; absent = 0 }
 
 -- The values are those found under their names.
 pub record AreValues (find : Word → Option Text) (values : GatewayWords) : Type 0 where
@@ -36,7 +38,10 @@ pub record AreValues (find : Word → Option Text) (values : GatewayWords) : Typ
   pub connections : IsCount (find value.Connections) values.connections
   pub turns : IsCount (find value.Turns) values.turns
   pub clients : IsCountWithin clients_range (find value.Clients) values.clients
-  pub idle : IsCountWithin idle_range (find value.Idle) values.idle
+  pub idle : IsCountWithin seconds_range (find value.Idle) values.idle
+  pub keep_idle : IsCountWithin seconds_range (find value.KeepIdle) values.keep_idle
+  pub connect : IsCountWithin seconds_range (find value.Connect) values.connect
+  pub answer : IsCountWithin seconds_range (find value.Answer) values.answer
   pub is_logged : IsTrue values.is_logged ↔ (find value.Log ≡ Some (codes "true"))
 
 -- Each value that is needed is there, and a number where it has to be.
@@ -46,16 +51,26 @@ pub record HasNeeded (find : Word → Option Text) : Type 0 where
   pub connections : (count : ℕ) × IsCount (find value.Connections) count
   pub turns : (count : ℕ) × IsCount (find value.Turns) count
 
--- Each value before this one, in the order `config`, `listen`, `connections`, `turns`, `clients`,
--- `idle`, is there where it is needed, and a number where it has to be. There is no script, and a
--- flag is no value.
+-- Those are, and how many clients there are is a number, if it is said.
+abbrev pub HasClients : (Word → Option Text) → Type 0
+HasClients find = HasNeeded find × (count : ℕ) × IsCountWithin clients_range (find value.Clients) count
+
+-- The value is a number of seconds, or left out.
+abbrev pub IsSeconds : (Word → Option Text) → Word → Type 0
+IsSeconds find word = (count : ℕ) × IsCountWithin seconds_range (find word) count
+
+-- Each value before this one, in the order `config`, `listen`, `connections`, `turns`, `clients`, `idle`, `keep-idle`, `connect`, `answer`, is there
+-- where it is needed, and a number where it has to be. There is no script, and a flag is no value.
 abbrev pub IsReached : (Word → Option Text) → Word → Type 0
 IsReached find value.Config = ⊤
 IsReached find value.Listen = IsSome (find value.Config)
 IsReached find value.Connections = IsSome (find value.Config) × IsSome (find value.Listen)
 IsReached find value.Turns = IsSome (find value.Config) × IsSome (find value.Listen) × (count : ℕ) × IsCount (find value.Connections) count
 IsReached find value.Clients = HasNeeded find
-IsReached find value.Idle = HasNeeded find × (count : ℕ) × IsCountWithin clients_range (find value.Clients) count
+IsReached find value.Idle = HasClients find
+IsReached find value.KeepIdle = HasClients find × IsSeconds find value.Idle
+IsReached find value.Connect = HasClients find × IsSeconds find value.Idle × IsSeconds find value.KeepIdle
+IsReached find value.Answer = HasClients find × IsSeconds find value.Idle × IsSeconds find value.KeepIdle × IsSeconds find value.Connect
 IsReached find value.Log = ⊥
 IsReached find value.Script = ⊥
 
@@ -72,7 +87,10 @@ abbrev pub IsNoNumber : Word → Option Text → Type 0
 IsNoNumber value.Connections found = IsNoCount found value.Connections (NotANumber value.Connections)
 IsNoNumber value.Turns found = IsNoCount found value.Turns (NotANumber value.Turns)
 IsNoNumber value.Clients found = IsNoCountWithin clients_range found value.Clients (NotANumber value.Clients)
-IsNoNumber value.Idle found = IsNoCountWithin idle_range found value.Idle (NotANumber value.Idle)
+IsNoNumber value.Idle found = IsNoCountWithin seconds_range found value.Idle (NotANumber value.Idle)
+IsNoNumber value.KeepIdle found = IsNoCountWithin seconds_range found value.KeepIdle (NotANumber value.KeepIdle)
+IsNoNumber value.Connect found = IsNoCountWithin seconds_range found value.Connect (NotANumber value.Connect)
+IsNoNumber value.Answer found = IsNoCountWithin seconds_range found value.Answer (NotANumber value.Answer)
 IsNoNumber word found = ⊥
 
 -- Why they are none, unless memory ran out: the first that is missing and needed, or no number.

@@ -33,6 +33,9 @@ impl Word {
             Word::Script => "script",
             Word::Clients => "clients",
             Word::Idle => "idle",
+            Word::KeepIdle => "keep-idle",
+            Word::Connect => "connect",
+            Word::Answer => "answer",
             Word::Log => "log",
         }
     }

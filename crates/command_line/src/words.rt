@@ -19,6 +19,12 @@ pub enum Word {
     Clients,
     /// `--idle SECONDS`: for how many seconds a client may neither say nor take anything.
     Idle,
+    /// `--keep-idle SECONDS`: for how many seconds a connection to a server may be idle.
+    KeepIdle,
+    /// `--connect SECONDS`: for how many seconds a connection to a server may take to come about.
+    Connect,
+    /// `--answer SECONDS`: for how many seconds a server may send nothing of a response.
+    Answer,
     /// `--log`: whether exchanges with servers and connections are told of.
     Log,
 }

@@ -45,6 +45,9 @@ fn setting_of(
         turns: 2_000,
         clients: 3,
         idle: 30,
+        keep_idle: 0,
+        connect: 0,
+        answer: 0,
         is_logged: false,
     })
 }

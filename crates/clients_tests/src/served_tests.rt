@@ -46,6 +46,7 @@ fn setting_of(alloc: Global, connections: u32, turns: u32) -> Setting
         turns,
         clients: 1,
         idle: 0,
+        keep_idle: 0,
         is_logged: false,
     }
 }

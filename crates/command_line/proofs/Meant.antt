@@ -45,6 +45,7 @@ gateway_means f a ws v p has = (
     turns = subst (λ o. IsCount o v.turns) (found_at f a gateway_app ws (name_of value.Turns) p) has.turns;
     clients = subst (λ o. IsCountWithin gateways.clients_range o v.clients) (found_at f a gateway_app ws (name_of value.Clients) p) has.clients;
     idle = subst (λ o. IsCountWithin gateways.idle_range o v.idle) (found_at f a gateway_app ws (name_of value.Idle) p) has.idle;
+    keep_idle = subst (λ o. IsCountWithin gateways.idle_range o v.keep_idle) (found_at f a gateway_app ws (name_of value.KeepIdle) p) has.keep_idle;
     is_logged = subst (λ o. IsTrue v.is_logged ↔ (o ≡ Some (codes "true"))) (found_at f a gateway_app ws (name_of value.Log) p) has.is_logged;
   },
 )

@@ -1,5 +1,5 @@
 -- The command line
--- `h2gw --config FILE --listen ADDR --connections N --turns N [--clients N] [--idle SECONDS] [--log]`,
+-- `h2gw --config FILE --listen ADDR --connections N --turns N [--clients N] [--idle SECONDS] [--keep-idle SECONDS] [--log]`,
 -- by `clap`'s meaning of a simple command.
 use Rattle.std.specs.Prelude.{◌≡◌, ◌↔◌, ℕ, IsTrue, List, [], Option, Some, None, IsSome, string_bytes, codes, ⊤}
 use Rattle.clap.specs.Words.{App, Text, new_app, with_rule, matches_of, first_of, fault_of, kind_of, IsAmong, first_value}
@@ -19,13 +19,14 @@ needed_app = with_rule (with_rule (with_rule (with_rule (new_app (codes "h2gw"))
 
 -- the command
 abbrev pub gateway_app : App
-gateway_app = with_rule (with_rule (with_rule needed_app (option_rule value.Clients)) (option_rule value.Idle)) (flag_rule value.Log)
+gateway_app = with_rule (with_rule (with_rule (with_rule needed_app (option_rule value.Clients)) (option_rule value.Idle)) (option_rule value.KeepIdle))
+    (flag_rule value.Log)
 
 -- how many clients may be served at once, and how many where that isn't said
 abbrev pub clients_range : Range
 clients_range = record { least = 1; most = 1024; absent = 1 }
 
--- for how many seconds a client may be idle
+-- for how many seconds a client, or a connection to a server, may be idle
 abbrev pub idle_range : Range
 idle_range = record { least = 0; most = 4294967295; absent = 0 }
 
@@ -37,6 +38,7 @@ pub record AreValues (find : Word → Option Text) (values : GatewayWords) : Typ
   pub turns : IsCount (find value.Turns) values.turns
   pub clients : IsCountWithin clients_range (find value.Clients) values.clients
   pub idle : IsCountWithin idle_range (find value.Idle) values.idle
+  pub keep_idle : IsCountWithin idle_range (find value.KeepIdle) values.keep_idle
   pub is_logged : IsTrue values.is_logged ↔ (find value.Log ≡ Some (codes "true"))
 
 -- Each value that is needed is there, and a number where it has to be.
@@ -47,7 +49,7 @@ pub record HasNeeded (find : Word → Option Text) : Type 0 where
   pub turns : (count : ℕ) × IsCount (find value.Turns) count
 
 -- Each value before this one, in the order `config`, `listen`, `connections`, `turns`, `clients`,
--- `idle`, is there where it is needed, and a number where it has to be. There is no script, and a
+-- `idle`, `keep-idle`, is there where it is needed, and a number where it has to be. There is no script, and a
 -- flag is no value.
 abbrev pub IsReached : (Word → Option Text) → Word → Type 0
 IsReached find value.Config = ⊤
@@ -56,6 +58,8 @@ IsReached find value.Connections = IsSome (find value.Config) × IsSome (find va
 IsReached find value.Turns = IsSome (find value.Config) × IsSome (find value.Listen) × (count : ℕ) × IsCount (find value.Connections) count
 IsReached find value.Clients = HasNeeded find
 IsReached find value.Idle = HasNeeded find × (count : ℕ) × IsCountWithin clients_range (find value.Clients) count
+IsReached find value.KeepIdle = HasNeeded find × ((count : ℕ) × IsCountWithin clients_range (find value.Clients) count)
+    × ((count : ℕ) × IsCountWithin idle_range (find value.Idle) count)
 IsReached find value.Log = ⊥
 IsReached find value.Script = ⊥
 
@@ -73,6 +77,7 @@ IsNoNumber value.Connections found = IsNoCount found value.Connections (NotANumb
 IsNoNumber value.Turns found = IsNoCount found value.Turns (NotANumber value.Turns)
 IsNoNumber value.Clients found = IsNoCountWithin clients_range found value.Clients (NotANumber value.Clients)
 IsNoNumber value.Idle found = IsNoCountWithin idle_range found value.Idle (NotANumber value.Idle)
+IsNoNumber value.KeepIdle found = IsNoCountWithin idle_range found value.KeepIdle (NotANumber value.KeepIdle)
 IsNoNumber word found = ⊥
 
 -- Why they are none, unless memory ran out: the first that is missing and needed, or no number.

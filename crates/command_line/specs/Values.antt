@@ -5,7 +5,7 @@ use Rattle.clap.specs.Words.{Rule, Text, new_rule}
 use Rattle.clap.specs.declared.builder.action.ArgAction.TheVariants.{Set, SetTrue}
 use Rattle.command_line.specs.declared.values.Range.{Range}
 use Rattle.command_line.specs.declared.words.Word.{Word}
-use Rattle.command_line.specs.declared.words.Word.TheVariants.{Config, Listen, Connections, Turns, Script, Clients, Idle, Log}
+use Rattle.command_line.specs.declared.words.Word.TheVariants.{Config, Listen, Connections, Turns, Script, Clients, Idle, KeepIdle, Log}
 use Rattle.command_line.specs.declared.words.WordsFault.{WordsFault}
 use Rattle.command_line.specs.declared.words.WordsFault.TheVariants.{Missing, NotANumber}
 
@@ -18,6 +18,7 @@ name_of Turns = codes "turns"
 name_of Script = codes "script"
 name_of Clients = codes "clients"
 name_of Idle = codes "idle"
+name_of KeepIdle = codes "keep-idle"
 name_of Log = codes "log"
 
 -- `--name VALUE`, which may be left out and has one value

@@ -23,6 +23,9 @@ const CLIENTS: &str = "How many connections are served at once, 1 to 1024 [defau
 const IDLE: &str =
     "For how many seconds a client may neither say nor take anything; 0 is for ever [default: 0]";
 
+const KEEP_IDLE: &str =
+    "For how many seconds a connection to a server may be idle; 0 is for ever [default: 0]";
+
 const LOG: &str =
     "Writes a line on standard error for each exchange with a server and for each connection";
 
@@ -33,7 +36,7 @@ const CLIENTS_RANGE: Range = Range {
     absent: 1,
 };
 
-/// How many seconds a client may be idle.
+/// How many seconds a client, or a connection to a server, may be idle.
 const IDLE_RANGE: Range = Range {
     least: 0,
     most: u32::MAX,
@@ -55,13 +58,16 @@ pub struct GatewayWords {
     pub clients: u32,
     /// For how many seconds a client may neither say nor take anything; 0 is for ever.
     pub idle: u32,
+    /// For how many seconds a connection to a server may be idle; 0 is for ever.
+    pub keep_idle: u32,
     /// Exchanges with servers and connections are told of on standard error.
     pub is_logged: bool,
 }
 
 /// Reads the gateway's command line, from the program's name on:
 /// `--config FILE --listen ADDR --connections N --turns N`, in any order, each once and none left
-/// out, and `--clients N`, 1 to 1,024, `--idle SECONDS` and `--log`, each once or left out.
+/// out, and `--clients N`, 1 to 1,024, `--idle SECONDS`, `--keep-idle SECONDS` and `--log`, each
+/// once or left out.
 /// `--help` and what isn't such a line is a fault, and so is the first value, in the order above,
 /// that is missing or no such number.
 pub fn read_gateway_words<'a>(
@@ -87,6 +93,7 @@ fn gateway_command<'a>(alloc: Global) -> Result<Command<'a>, AllocError>
     needed_command(alloc)?
         .arg(option(alloc, Word::Clients, "N", CLIENTS))?
         .arg(option(alloc, Word::Idle, "SECONDS", IDLE))?
+        .arg(option(alloc, Word::KeepIdle, "SECONDS", KEEP_IDLE))?
         .arg(flag(alloc, Word::Log, LOG))
 }
 
@@ -112,6 +119,7 @@ fn gateway_values(alloc: Global, matches: &ArgMatches<'_>) -> Result<GatewayWord
     let turns = count_of(matches, Word::Turns)?;
     let clients = count_within(matches, Word::Clients, &CLIENTS_RANGE)?;
     let idle = count_within(matches, Word::Idle, &IDLE_RANGE)?;
+    let keep_idle = count_within(matches, Word::KeepIdle, &IDLE_RANGE)?;
     Ok(GatewayWords {
         config: String::from_str(alloc, config)?,
         listen: String::from_str(alloc, listen)?,
@@ -119,6 +127,7 @@ fn gateway_values(alloc: Global, matches: &ArgMatches<'_>) -> Result<GatewayWord
         turns,
         clients,
         idle,
+        keep_idle,
         is_logged: has_flag(matches, Word::Log),
     })
 }

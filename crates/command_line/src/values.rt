@@ -33,6 +33,7 @@ impl Word {
             Word::Script => "script",
             Word::Clients => "clients",
             Word::Idle => "idle",
+            Word::KeepIdle => "keep-idle",
             Word::Log => "log",
         }
     }

@@ -19,6 +19,8 @@ pub enum Word {
     Clients,
     /// `--idle SECONDS`: for how many seconds a client may neither say nor take anything.
     Idle,
+    /// `--keep-idle SECONDS`: for how many seconds a connection to a server may be idle.
+    KeepIdle,
     /// `--log`: whether exchanges with servers and connections are told of.
     Log,
 }

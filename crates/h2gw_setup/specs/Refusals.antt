@@ -49,6 +49,7 @@ IsCountValue value.Connections = ⊤
 IsCountValue value.Turns = ⊤
 IsCountValue value.Clients = ⊤
 IsCountValue value.Idle = ⊤
+IsCountValue value.KeepIdle = ⊤
 IsCountValue word = ⊥
 
 -- Why the command line isn't taken. Which arguments the program has isn't told.

@@ -38,6 +38,8 @@ pub struct Setting {
     pub clients: u32,
     /// For how many seconds a client may neither say nor take anything; 0 is for ever.
     pub idle: u32,
+    /// For how many seconds a connection to a server may be idle; 0 is for ever.
+    pub keep_idle: u32,
     /// Exchanges with servers and connections are told of on standard error.
     pub is_logged: bool,
 }
@@ -60,7 +62,8 @@ fn read_setting_of<R: Files + AllocGlobal>(rt: &R, words: &GatewayWords) -> Resu
     ensures addresses { IfOk result (λ setting. AreAddresses setting.config.routes.items setting.addresses.items) }
     ensures listen { IfOk result (λ setting. IsSocketText (string_bytes words.now.listen) setting.listen) }
     ensures counts { IfOk result (λ setting. (setting.connections ≡ words.now.connections) × (setting.turns ≡ words.now.turns)
-        × (setting.clients ≡ words.now.clients) × (setting.idle ≡ words.now.idle) × (setting.is_logged ≡ words.now.is_logged)) }
+        × (setting.clients ≡ words.now.clients) × (setting.idle ≡ words.now.idle) × (setting.keep_idle ≡ words.now.keep_idle)
+        × (setting.is_logged ≡ words.now.is_logged)) }
     ensures stops { IfErr result (λ stop. LacksSetting (string_bytes words.now.listen) stop) }
 {
     let Ok(listen) = words.listen.parse::<SocketAddr>() else {
@@ -87,7 +90,8 @@ fn setting_of(
     ensures addresses { IfOk result (λ setting. AreAddresses setting.config.routes.items setting.addresses.items) }
     ensures listens { IfOk result (λ setting. setting.listen ≡ listen) }
     ensures counts { IfOk result (λ setting. (setting.connections ≡ words.now.connections) × (setting.turns ≡ words.now.turns)
-        × (setting.clients ≡ words.now.clients) × (setting.idle ≡ words.now.idle) × (setting.is_logged ≡ words.now.is_logged)) }
+        × (setting.clients ≡ words.now.clients) × (setting.idle ≡ words.now.idle) × (setting.keep_idle ≡ words.now.keep_idle)
+        × (setting.is_logged ≡ words.now.is_logged)) }
     ensures stops { IfErr result (λ stop. LacksConfig text.now stop) }
 {
     let config = match read_config(alloc, text) {
@@ -103,6 +107,7 @@ fn setting_of(
         turns: words.turns,
         clients: words.clients,
         idle: words.idle,
+        keep_idle: words.keep_idle,
         is_logged: words.is_logged,
     })
 }

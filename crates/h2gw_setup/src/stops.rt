@@ -89,6 +89,7 @@ fn missing(word: Word) -> &'static str
         Word::Script => "script: missing",
         Word::Clients => "clients: missing",
         Word::Idle => "idle: missing",
+        Word::KeepIdle => "keep-idle: missing",
         Word::Log => "log: missing",
     }
 }
@@ -105,6 +106,7 @@ fn not_a_number(word: Word) -> &'static str
         Word::Script => "script: not a number",
         Word::Clients => "clients: not a number",
         Word::Idle => "idle: not a number",
+        Word::KeepIdle => "keep-idle: not a number",
         Word::Log => "log: not a number",
     }
 }

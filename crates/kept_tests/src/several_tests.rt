@@ -45,6 +45,7 @@ fn setting_of(
         turns: 2_000,
         clients: 3,
         idle: 30,
+        keep_idle: 0,
         is_logged: false,
     })
 }

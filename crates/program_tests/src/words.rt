@@ -81,8 +81,8 @@ fn the_gateway_reads_its_words(rt: HostRuntime) -> Result<(), Fail> {
             assert_eq!(rt; values.listen.as_str(), "127.0.0.1:80");
             assert_eq!(rt; (values.connections, values.turns), (0, 4294967295));
             assert_eq!(rt;
-                (values.clients, values.idle, values.is_logged),
-                (1, 0, false)
+                (values.clients, values.idle, values.keep_idle, values.is_logged),
+                (1, 0, 0, false)
             );
         }
         Err(fault) => panic!(rt; "{fault:?}"),
@@ -114,13 +114,20 @@ fn the_gateway_reads_how_many_clients_there_are(rt: HostRuntime) -> Result<(), F
         "1024",
         "--connections=1",
         "--idle=30",
+        "--keep-idle",
+        "60",
         "--turns=2",
     ];
     match read_gateway_words(rt.alloc(), words.as_slice()) {
         Ok(values) => {
             assert_eq!(rt;
-                (values.clients, values.idle, values.is_logged),
-                (1024, 30, true)
+                (
+                    values.clients,
+                    values.idle,
+                    values.keep_idle,
+                    values.is_logged
+                ),
+                (1024, 30, 60, true)
             );
         }
         Err(fault) => panic!(rt; "{fault:?}"),
@@ -133,6 +140,10 @@ fn the_gateway_reads_how_many_clients_there_are(rt: HostRuntime) -> Result<(), F
     }
     match read_with(rt.alloc(), "--idle=-1") {
         Err(WordsFault::NotANumber(Word::Idle)) => {}
+        _ => panic!(rt; "no number, and taken"),
+    }
+    match read_with(rt.alloc(), "--keep-idle=x") {
+        Err(WordsFault::NotANumber(Word::KeepIdle)) => {}
         _ => panic!(rt; "no number, and taken"),
     }
     Ok(())

@@ -12,4 +12,5 @@ invariant-loop g l = record {
   heard : HasQueued l.fn.self → l.self.heard_at ≡ l.fn.self.heard_at;
   addresses : l.self.addresses ≡ l.fn.self.addresses;
   number : number_of_client l.self.reporting ≡ number_of_client l.fn.self.reporting;
+  portion : l.self.buffer.portion ≡ l.fn.self.buffer.portion;
 }

@@ -1,9 +1,11 @@
 //! One client of many: it is served, and then left.
 
-ghost use Rattle.std.specs.Prelude.{◌+◌, ◌<◌, ◌≡◌, ◌^◌, is_none, not};
+ghost use Rattle.std.specs.Prelude.{◌+◌, ◌<◌, ◌≤◌, ◌≡◌, ◌^◌, is_none, not, if◌then◌else◌};
+ghost use Rattle.sockets.specs.declared.portion.Portion.TheVariants.{Whole};
 ghost use Rattle.gateway.specs.Setups.{setup_of, IsServable};
 
 use crate::log::say_exchanges;
+use crate::pace::Pace;
 use crate::watched::Watched;
 use driver::{ServeFault, Service, ServiceEnd, WorldFault};
 use exchange_log::Exchanges;
@@ -12,7 +14,7 @@ use h2gw_setup::setting::Setting;
 use mio::Registry;
 use mio::event::Event as Report;
 use mio::net::TcpStream as Socket;
-use sockets::{Buffer, Departure, SocketWorld};
+use sockets::{Buffer, Departure, Portion, SocketWorld};
 use std::alloc::Global;
 use std::io;
 use std::net::SocketAddr;
@@ -55,6 +57,8 @@ struct Serving<'a> {
     sockets: WatchedSockets<'a>,
     /// How many turns it has yet.
     turns: u32,
+    /// By how much it is read at a time, where other clients are there.
+    portion: Portion,
     // Its calls and failures can be counted as long as it has turns.
     ghost calls: { sockets.world.calls + turns < 2 ^ 64 },
     ghost failures: { sockets.world.failures + turns < 2 ^ 64 },
@@ -162,20 +166,21 @@ impl<'a> Client<'a> {
         Ok(())
     }
 
-    /// Takes turns of it while it has something left, so many in a row at most. All that is
-    /// reported was heard, or wasn't. The answer is what it has left, and how serving it ended, if
-    /// that was now.
+    /// Takes turns of it while it has something left, so many in a row at most, and where others
+    /// are there only for a while. All that is reported was heard, or wasn't. The answer is what it
+    /// has left, and how serving it ended, if that was now.
     pub fn go_on(
         &mut self,
         common: &Common<'a>,
         buffer: &mut Buffer,
         is_told: bool,
+        is_alone: bool,
     ) -> (Remaining, Option<Outcome>) {
         let (number, address) = (self.number, self.address);
         let Some(serving) = &mut self.serving else {
             return (self.leave_on(common, buffer), None);
         };
-        let round = serving.take_turns(buffer, is_told);
+        let round = serving.take_turns(common.rt, buffer, is_told, is_alone);
         say_exchanges(common, number, address, &mut serving.sockets);
         match round {
             Round::More => (Remaining::More, None),
@@ -209,6 +214,7 @@ impl<'a> Client<'a> {
         let Ok(now) = Instant::now(common.rt) else {
             return Remaining::Gone;
         };
+        buffer.limit(Portion::Whole);
         match departure.go_on(common.rt.alloc(), now, common.registry, buffer) {
             Ok(Some(most)) if most.is_zero() => Remaining::More,
             Ok(Some(_)) => Remaining::Nothing,
@@ -230,6 +236,13 @@ impl<'a> Client<'a> {
             let _ = serving.sockets.world.end_client();
         }
     }
+
+    /// Ends connections to servers that were idle for so long.
+    pub fn end_idle(&mut self, now: Instant, most: Duration) {
+        if let Some(serving) = &mut self.serving {
+            serving.end_idle(now, most);
+        }
+    }
 }
 
 impl<'a> Serving<'a> {
@@ -242,16 +255,42 @@ impl<'a> Serving<'a> {
             service,
             sockets,
             turns,
+            portion: Portion::Small,
         }
     }
 
+    /// Ends connections to servers that were idle for so long.
+    fn end_idle(&mut self, now: Instant, most: Duration) {
+        self.sockets.world.note_idle(self.service.idle(), now, most);
+    }
+
     /// Takes a round of turns, with a buffer that was lent for that.
-    fn take_turns(&mut self, buffer: &mut Buffer, is_told: bool) -> Round {
+    fn take_turns(
+        &mut self,
+        rt: &HostRuntime,
+        buffer: &mut Buffer,
+        is_told: bool,
+        is_alone: bool,
+    ) -> Round
+        ensures turns { self.old.turns ≤ self.new.turns + 16 }
+    {
+        buffer.limit(self.portion_for(is_alone));
         self.sockets.world.swap_buffer(buffer);
         self.catch_up(is_told);
-        let round = self.take_round();
+        let round = self.take_round_for(rt, is_alone);
         self.sockets.world.swap_buffer(buffer);
         round
+    }
+
+    /// By how much it is read at a time: others wait no longer than a small portion takes.
+    fn portion_for(&self, is_alone: bool) -> Portion
+        ensures { result ≡ (if is_alone then Whole else self.now.portion) }
+    {
+        if is_alone {
+            Portion::Whole
+        } else {
+            self.portion
+        }
     }
 
     /// Its world was told of all that is reported, or wasn't.
@@ -261,23 +300,86 @@ impl<'a> Serving<'a> {
         }
     }
 
+    /// Takes a round of turns, which is brief where others are there.
+    fn take_round_for(&mut self, rt: &HostRuntime, is_alone: bool) -> Round
+        ensures turns { self.old.turns ≤ self.new.turns + 16 }
+    {
+        if is_alone {
+            self.take_round()
+        } else {
+            self.take_brief_round(rt)
+        }
+    }
+
     /// Takes turns while there is something left, so many in a row at most.
-    fn take_round(&mut self) -> Round {
+    fn take_round(&mut self) -> Round
+        ensures turns { self.old.turns ≤ self.new.turns + 16 }
+    {
         for _ in 0..ROUND {
-            if self.turns == 0 {
-                return Round::Ended(Ok(ServiceEnd::Turns));
-            }
-            self.turns -= 1;
-            match self.service.take_turn(&mut self.sockets) {
-                // Where no turn is left it ends at once, though nothing is there.
-                Ok(None) if self.turns > 0 && self.sockets.world.is_quiet() =>
-                    return Round::Nothing,
-                Ok(None) if self.turns > 0 && self.sockets.world.is_behind() => return Round::More,
-                Ok(None) => {}
-                Ok(Some(ended)) => return Round::Ended(Ok(ended)),
-                Err(fault) => return Round::Ended(Err(fault)),
+            if let Some(round) = self.take_turn() {
+                return round;
             }
         }
         Round::More
+    }
+
+    /// Takes such a round that ends where it took long, too. What its turns took says by how much
+    /// the client is read in the next one.
+    fn take_brief_round(&mut self, rt: &HostRuntime) -> Round
+        ensures turns { self.old.turns ≤ self.new.turns + 16 }
+    {
+        let Ok(now) = Instant::now(rt) else {
+            return self.take_round();
+        };
+        let mut pace = Pace::begin(now);
+        let round = self.take_turns_at(rt, &mut pace);
+        self.portion = pace.portion(self.portion);
+        round
+    }
+
+    /// Takes turns while there is something left and the round isn't over, so many in a row at
+    /// most.
+    fn take_turns_at(&mut self, rt: &HostRuntime, pace: &mut Pace) -> Round
+        ensures turns { self.old.turns ≤ self.new.turns + 16 }
+    {
+        for _ in 0..ROUND {
+            if let Some(round) = self.take_turn_at(rt, pace) {
+                return round;
+            }
+        }
+        Round::More
+    }
+
+    /// Takes a turn, and notes when it ended. The answer is what the round came to, if it is over.
+    fn take_turn_at(&mut self, rt: &HostRuntime, pace: &mut Pace) -> Option<Round>
+        ensures turns { self.old.turns ≤ self.new.turns + 1 }
+    {
+        let round = self.take_turn();
+        let Ok(now) = Instant::now(rt) else {
+            return Some(round.unwrap_or(Round::More));
+        };
+        pace.note(now);
+        if round.is_none() && pace.is_over() {
+            return Some(Round::More);
+        }
+        round
+    }
+
+    /// Takes a turn. The answer is what the round came to, if it is over.
+    fn take_turn(&mut self) -> Option<Round>
+        ensures turns { self.old.turns ≤ self.new.turns + 1 }
+    {
+        if self.turns == 0 {
+            return Some(Round::Ended(Ok(ServiceEnd::Turns)));
+        }
+        self.turns -= 1;
+        match self.service.take_turn(&mut self.sockets) {
+            // Where no turn is left it ends at once, though nothing is there.
+            Ok(None) if self.turns > 0 && self.sockets.world.is_quiet() => Some(Round::Nothing),
+            Ok(None) if self.turns > 0 && self.sockets.world.is_behind() => Some(Round::More),
+            Ok(None) => None,
+            Ok(Some(ended)) => Some(Round::Ended(Ok(ended))),
+            Err(fault) => Some(Round::Ended(Err(fault))),
+        }
     }
 }

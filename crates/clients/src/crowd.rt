@@ -22,7 +22,8 @@ use std::{io, net};
 /// So often in a row reports are looked for at most, before clients have turns.
 const MOST_LOOKS: u32 = 64;
 
-/// After so many seconds it is looked after clients that are idle or being left.
+/// After so many seconds it is looked after clients that are idle or being left, and after idle
+/// connections to servers.
 const TICK: u64 = 1;
 
 /// The clients that are there, and those that come. All are served if rounds are taken until it is
@@ -114,12 +115,14 @@ impl<'a> Crowd<'a> {
         self.clients.is_empty() && self.entrance.is_over()
     }
 
-    /// A round: waits until something is reported, or is to be done, heeds what was reported, and
-    /// lets those who have something left have their turns.
+    /// A round: looks after clients and connections that are idle, if it is time, waits until
+    /// something is reported, or is to be done, heeds what was reported, and lets those who have
+    /// something left have their turns. So what is ended for its idleness is heard before any turn.
     pub fn take_round(&mut self, common: &Common<'a>, reactor: &mut Reactor) -> Result<(), Stop>
         requires { IsServable (setup_of common.now.setting.now.config) }
         ensures { IfErr result (λ stop. 2 ≤ status_of stop) }
     {
+        self.tick(common)?;
         self.wait(common, reactor)?;
         let is_told = self.hear_all(common, reactor)?;
         self.go_on(common, is_told)
@@ -150,7 +153,7 @@ impl<'a> Crowd<'a> {
 
     /// Whether something is to be done where only time passes.
     fn is_ticking(&self, setting: &Setting) -> bool {
-        self.leaving > 0 || setting.idle > 0 || self.entrance.is_paused()
+        self.leaving > 0 || setting.idle > 0 || setting.keep_idle > 0 || self.entrance.is_paused()
     }
 
     /// Heeds what was reported, and looks again as long as so many sockets were that others may
@@ -187,7 +190,6 @@ impl<'a> Crowd<'a> {
         ensures { IfErr result (λ stop. 2 ≤ status_of stop) }
     {
         self.let_in(common)?;
-        self.tick(common)?;
         self.take_turns(common, is_told)
     }
 
@@ -277,7 +279,7 @@ impl<'a> Crowd<'a> {
         }
         self.ticked = Some(now);
         self.entrance.resume();
-        look_after_all(&mut self.clients, now, common.setting.idle, &mut self.queue)
+        look_after_all(&mut self.clients, now, common.setting, &mut self.queue)
     }
 
     /// Each client that has something left has turns, and stands behind the others then if it has
@@ -306,9 +308,10 @@ impl<'a> Crowd<'a> {
         requires { place < vec_len self.old.clients }
         ensures { IfErr result (λ stop. 2 ≤ status_of stop) }
     {
+        let is_alone = self.clients.len() == 1;
         let client = &mut self.clients[place];
         client.is_queued = false;
-        let (remaining, outcome) = client.go_on(common, &mut self.buffer, is_told);
+        let (remaining, outcome) = client.go_on(common, &mut self.buffer, is_told, is_alone);
         if let Some(outcome) = outcome {
             self.leaving = self.leaving.saturating_add(1);
             note_end(common, client, &outcome)?;
@@ -382,22 +385,23 @@ fn join(client: &mut Client<'_>, queue: &mut VecDeque<u32>) -> Result<(), Stop>
 fn look_after_all(
     clients: &mut [Client<'_>],
     now: Instant,
-    idle_seconds: u32,
+    setting: &Setting,
     queue: &mut VecDeque<u32>,
 ) -> Result<(), Stop>
     ensures { IfErr result (λ stop. 2 ≤ status_of stop) }
 {
     for client in clients {
-        look_after(client, now, idle_seconds, queue)?;
+        look_after(client, now, setting, queue)?;
     }
     Ok(())
 }
 
-/// A client that is being left goes on with that, and one that is idle for too long is ended.
+/// A client that is being left goes on with that, one that is idle for too long is ended, and so
+/// are connections to servers that are.
 fn look_after(
     client: &mut Client<'_>,
     now: Instant,
-    idle_seconds: u32,
+    setting: &Setting,
     queue: &mut VecDeque<u32>,
 ) -> Result<(), Stop>
     ensures { IfErr result (λ stop. 2 ≤ status_of stop) }
@@ -405,8 +409,11 @@ fn look_after(
     if client.is_left() {
         return join(client, queue);
     }
-    if idle_seconds > 0 {
-        client.watch(now, Duration::from_secs(u64::from(idle_seconds)));
+    if setting.idle > 0 {
+        client.watch(now, Duration::from_secs(u64::from(setting.idle)));
+    }
+    if setting.keep_idle > 0 {
+        client.end_idle(now, Duration::from_secs(u64::from(setting.keep_idle)));
     }
     Ok(())
 }

@@ -7,8 +7,10 @@ mod crowd;
 mod entrance;
 mod listening;
 mod log;
+mod pace;
 mod watched;
 
 pub use client::Common;
 pub use crowd::{Crowd, serve_crowd};
 pub use listening::{serve_at, serve_clients};
+pub use pace::Pace;

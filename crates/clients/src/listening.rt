@@ -29,14 +29,15 @@ pub fn serve_clients(rt: &HostRuntime, setting: &Setting) -> Result<(), Stop>
     }
 }
 
-/// Whether one client is served after another, however long it says nothing, and none is told of.
+/// Whether one client is served after another, however long it says nothing and connections to
+/// servers are idle, and none is told of.
 /// This is the default, and has a way of its own (`serve_at`), which is the program's as it was
 /// first described: one client waits for another, an error of accept ends the program, and there is
 /// no reactor.
 fn is_plain(setting: &Setting) -> bool
-    ensures { result ≡ ((setting.now.clients == 1 && setting.now.idle == 0) && not setting.now.is_logged) }
+    ensures { result ≡ (((setting.now.clients == 1 && setting.now.idle == 0) && setting.now.keep_idle == 0) && not setting.now.is_logged) }
 {
-    setting.clients == 1 && setting.idle == 0 && !setting.is_logged
+    setting.clients == 1 && setting.idle == 0 && setting.keep_idle == 0 && !setting.is_logged
 }
 
 /// Serves the connections of clients at a listener, one after another.

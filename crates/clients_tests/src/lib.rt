@@ -1,5 +1,5 @@
-//! Tests of `clients` and `exchange_log`: clients that are served after a listener is bound, and
-//! what is told of exchanges.
+//! Tests of `clients` and `exchange_log`: clients that are served after a listener is bound, how
+//! long a round of one is beside others, and what is told of exchanges.
 //!
 //! There is nothing here but tests. They stand apart from the crates so that no crate is proved a
 //! second time together with them.
@@ -7,5 +7,7 @@
 
 #[cfg(test)]
 mod exchanges_tests;
+#[cfg(test)]
+mod pace_tests;
 #[cfg(test)]
 mod served_tests;

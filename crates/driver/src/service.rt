@@ -4,7 +4,11 @@ ghost use Rattle.std.specs.Prelude.{◌≡◌, ◌+◌, ◌<◌, ◌≤◌, ◌^
 ghost use Rattle.model.specs.Logs.{Step};
 ghost use Rattle.model.specs.Setup.{Setup};
 ghost use Rattle.gateway.specs.Setups.{setup_of, IsServable};
-ghost use Rattle.gateway.specs.Stands.{opened_in};
+ghost use Rattle.theory_errors.specs.Rule.{known_of};
+ghost use Rattle.theory.specs.Moves.{Move};
+ghost use Rattle.theory.specs.State.{conducts, tape_of};
+ghost use Rattle.gateway.specs.Rooms.{AreAllIdle};
+ghost use Rattle.gateway.specs.Stands.{Stands, opened_in};
 ghost use Rattle.driver.specs.Worlds.{Handed, AddsPromised, AddsFrontTo, AddsRefusedTo, AddsUnansweredTo, HandsTo, SaysEnd, ends};
 ghost use Rattle.driver.specs.Services.{Begins, Goes, turn_of, outcome_of};
 ghost use Rattle.driver.specs.Calls.{Runs, TurnLeaves};
@@ -64,6 +68,16 @@ impl Service {
         ensures { result ≡ opened_in self.now.gateway }
     {
         self.gateway.opened()
+    }
+
+    /// The numbers of the connections to upstreams that are idle: none once the client is closed, or
+    /// memory was refused.
+    pub fn idle(&self) -> &[u32]
+        // They are those that the log tells that its gateway stands for.
+        ensures { (setup : Setup) (log : List Step) (run : List Move) → Stands setup self.now.gateway log run
+            → AreAllIdle (known_of setup (conducts run)) (tape_of run) result.now }
+    {
+        self.gateway.idle()
     }
 
     /// Takes a turn: asks the world what comes next, and takes the event if one does; what is put

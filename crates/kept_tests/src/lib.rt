@@ -9,6 +9,8 @@ mod failing_tests;
 #[cfg(test)]
 mod faults;
 #[cfg(test)]
+mod idle_tests;
+#[cfg(test)]
 mod kept_tests;
 #[cfg(test)]
 mod meeting;

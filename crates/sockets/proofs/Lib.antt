@@ -5,3 +5,4 @@ pub mod Moving
 pub mod Events
 pub mod Queueing
 mod Idling
+mod Portions

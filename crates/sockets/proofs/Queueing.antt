@@ -199,6 +199,16 @@ module _ {S : Type 0} where
         listed = λ is. subst (Contains w) (sym number) (marked.listed (sym listed ∙ is));
       }
 
+  -- One that differs in nothing of this is listed as the other is.
+  pub listed_alike : (r w : List ℕ) (u v : Upstream S) → v.k ≡ u.k → v.is_queued ≡ u.is_queued → v.is_listed ≡ u.is_listed
+      → may_be_ready v.side ≡ may_be_ready u.side → took_untold v.side ≡ took_untold u.side → IsListed r w u → IsListed r w v
+  listed_alike r w u v number queued listed may took was =
+      record {
+        marked = marked_same r w u v number queued listed was.marked;
+        may = λ is. queued ∙ was.may (sym may ∙ is);
+        took = λ is. listed ∙ was.took (sym took ∙ is);
+      }
+
   -- One that isn't marked is marked as it stands.
   pub unmarked : (r w : List ℕ) (u : Upstream S) → u.is_queued ≡ false → u.is_listed ≡ false → IsMarked r w u
   unmarked r w u unqueued unlisted =

@@ -9,3 +9,4 @@ pub mod Departing
 pub mod Noting
 pub mod Idle
 pub mod Moves
+pub mod Portions

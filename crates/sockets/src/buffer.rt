@@ -4,7 +4,10 @@ ghost use Rattle.std.specs.Prelude.{◌≡◌, ◌↔◌, length, false, min, ve
 ghost use Rattle.socket_io.specs.Transfers.{Gives};
 ghost use Rattle.sockets.specs.Sides.{lost_news, may_go_on, out_of, IsOf, GoesOn};
 ghost use Rattle.sockets.specs.Performed.{GoesBy, FitsRoom};
+ghost use Rattle.sockets.specs.Portions.{portion_size};
+ghost use Rattle.sockets.specs.declared.portion.Portion.TheVariants.{Whole};
 
+use crate::portion::Portion;
 use crate::side::Side;
 use crate::upstream::Upstream;
 use crate::wire::Wire;
@@ -22,29 +25,45 @@ const PIECE: usize = 65536;
 #[derive(Drop)]
 pub struct Buffer {
     octets: Vec<u8>,
+    /// How much of a client is read at a time.
+    portion: Portion,
 }
 
 impl Buffer {
     /// Room that is made by the first read. It takes no memory as yet.
     pub fn new(alloc: Global) -> Buffer
-        ensures { vec_len result.octets ≡ 0 }
+        ensures empty { vec_len result.octets ≡ 0 }
+        ensures portion { result.portion ≡ Whole }
     {
         Buffer {
             octets: Vec::new(alloc),
+            portion: Portion::Whole,
         }
     }
 
     /// Room for octets.
     pub fn filled(alloc: Global) -> Result<Buffer, AllocError>
-        ensures { IfOk result (λ buffer. vec_len buffer.octets ≡ 65536) }
+        ensures room { IfOk result (λ buffer. vec_len buffer.octets ≡ 65536) }
+        ensures portion { IfOk result (λ buffer. buffer.portion ≡ Whole) }
     {
         let octets = vec![in alloc; 0; PIECE]?;
-        Ok(Buffer { octets })
+        Ok(Buffer {
+            octets,
+            portion: Portion::Whole,
+        })
+    }
+
+    /// From now on a client is read by such portions.
+    pub fn limit(&mut self, portion: Portion)
+        ensures { self.new ≡ record self.old { portion = portion } }
+    {
+        self.portion = portion;
     }
 
     /// Has room.
     fn fill(&mut self, alloc: Global) -> Result<(), AllocError>
-        ensures { OnOk result (vec_len self.new.octets ≡ 65536) }
+        ensures room { OnOk result (vec_len self.new.octets ≡ 65536) }
+        ensures portion { self.new.portion ≡ self.old.portion }
     {
         if self.octets.len() == PIECE {
             return Ok(());
@@ -53,17 +72,19 @@ impl Buffer {
         Ok(())
     }
 
-    /// Reads what is there of a side.
+    /// Reads what is there of a client's side, no more than a portion.
     pub fn read<S: Wire>(&mut self, alloc: Global, side: &mut Side<S>) -> io::Result<Got>
-        ensures gives { IfOk result (λ got. Gives (S.left side.old.socket) (S.left side.new.socket) 65536 got) }
+        ensures gives { IfOk result (λ got. Gives (S.left side.old.socket) (S.left side.new.socket) (portion_size self.old.portion) got) }
         ensures held { S.held side.new.socket ≡ S.held side.old.socket }
         ensures ended { IfOk result (λ got. IsTrue side.new.ended ↔ (got ≡ Got.End)) }
         ensures failed { OnErr result (side.new.ended ≡ side.old.ended) }
         ensures readable { IfOk result (λ got. side.new.readable ≡ may_go_on got) }
         ensures stays { side.new ≡ record side.old { socket = side.new.socket; readable = side.new.readable; ended = side.new.ended } }
+        ensures portion { self.new.portion ≡ self.old.portion }
     {
         self.fill(alloc)?;
-        side.read(alloc, &mut self.octets)
+        let most = self.portion.octets();
+        side.read(alloc, &mut self.octets[..most])
     }
 
     /// Reads what is there of an upstream, as far as there is room, if it is ready.
@@ -79,6 +100,7 @@ impl Buffer {
         ensures fits { IfOk result (λ event. FitsRoom (min room 65536) event) }
         ensures stays { upstream.new ≡ record upstream.old { side = upstream.new.side; is_queued = false } }
         ensures out { out_of upstream.new.side ≡ out_of upstream.old.side }
+        ensures portion { self.new.portion ≡ self.old.portion }
     {
         let Ok(()) = self.fill(alloc) else {
             upstream.leave_queue();

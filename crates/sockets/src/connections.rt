@@ -8,6 +8,7 @@ ghost use Rattle.sockets.specs.Performed.{Fits, client_heard, got_news, IsWithin
 ghost use Rattle.sockets.specs.Noting.{Notes};
 ghost use Rattle.sockets.specs.Tokens.{number_of_client, token_number, IsOfAnother, IsOfClient};
 ghost use Rattle.sockets.specs.Queues.{Grows, IsClientListed, HasQueued, HadQueued, client_last, is_late, is_behind};
+ghost use Rattle.sockets.specs.Portions.{portion_size, FitsPortion};
 ghost use Rattle.sockets.specs.Idle.{HearsFirst, could_read, is_alone, is_held_back, is_of_client};
 ghost use Rattle.sockets.specs.Sides.{no_news, lost_news, noted, IsBegun, IsNew, Goes, KeepsHeard, SendsFront, may_go_on, may_be_ready, may_read};
 ghost use Rattle.std.specs.List.{Contains};
@@ -15,7 +16,7 @@ ghost use Rattle.std.specs.List.{Contains};
 use crate::buffer::Buffer;
 use crate::departure::leave_on;
 use crate::leaving::Leaving;
-use crate::queues::{CLIENT, heed, heed_all, join_ready, list, place_of, take_next};
+use crate::queues::{CLIENT, heed, heed_all, join_ready, list, note_idle_all, place_of, take_next};
 use crate::reporting::{Reporting, number_in};
 use crate::rooms::room_of;
 use crate::side::Side;
@@ -121,6 +122,8 @@ impl<'a, N: Net + Clock, S: Wire> Sockets<'a, N, S> {
         ensures fits { IfOk result (λ event. Fits rooms.now event) }
         ensures queued { OnOk result (HasQueued self.old → HasQueued self.new) }
         ensures first { IfOk result (λ event. HasQueued self.old → HearsFirst idle.now event self.old self.new) }
+        ensures portion { self.new.buffer.portion ≡ self.old.buffer.portion }
+        ensures within { IfOk result (λ event. FitsPortion self.old.buffer.portion event) }
     {
         if let Some(event) = self.find_aside(rooms, idle)? {
             return Ok(Some(event));
@@ -146,6 +149,8 @@ impl<'a, N: Net + Clock, S: Wire> Sockets<'a, N, S> {
         ensures fits { IfOk result (λ event. Fits rooms.now event) }
         ensures queued { OnOk result (HasQueued self.old → HasQueued self.new) }
         ensures first { IfOk result (λ event. HasQueued self.old → HearsFirst idle.now event self.old self.new) }
+        ensures portion { self.new.buffer.portion ≡ self.old.buffer.portion }
+        ensures within { IfOk result (λ event. FitsPortion self.old.buffer.portion event) }
     {
         self.turns = self.turns.wrapping_add(1);
         if self.turns % ROUND == 0 {
@@ -166,6 +171,7 @@ impl<'a, N: Net + Clock, S: Wire> Sockets<'a, N, S> {
         ensures queued { HasQueued self.old → HasQueued self.new }
         ensures heard { self.new.heard_at ≡ self.old.heard_at }
         ensures told { is_of_client result ≡ false }
+        ensures portion { self.new.buffer.portion ≡ self.old.buffer.portion }
     {
         if self.turns % ROUND == ROUND / 2 {
             return self.tell();
@@ -180,6 +186,7 @@ impl<'a, N: Net + Clock, S: Wire> Sockets<'a, N, S> {
         ensures queued { OnOk result (HasQueued self.old → HasQueued self.new) }
         ensures heard { self.new.heard_at ≡ self.old.heard_at }
         ensures looked { OnOk result (is_alone self.old.reporting ≡ true → is_held_back idle.now self.new ≡ true → self.new.is_client_queued ≡ false) }
+        ensures portion { self.new.buffer.portion ≡ self.old.buffer.portion }
     {
         if self.is_client_queued && self.is_held_back(idle) {
             return self.look(Some(Duration::ZERO));
@@ -228,6 +235,8 @@ impl<'a, N: Net + Clock, S: Wire> Sockets<'a, N, S> {
         ensures fits { IfOk result (λ event. Fits rooms.now event) }
         ensures queued { OnOk result (HasQueued self.old → HasQueued self.new) }
         ensures first { IfOk result (λ event. HasQueued self.old → HearsFirst idle.now event self.old self.new) }
+        ensures portion { self.new.buffer.portion ≡ self.old.buffer.portion }
+        ensures within { IfOk result (λ event. FitsPortion self.old.buffer.portion event) }
     {
         if let Some(event) = self.tell_client(TOLD_AT_ONCE) {
             return Ok(Some(event));
@@ -253,6 +262,8 @@ impl<'a, N: Net + Clock, S: Wire> Sockets<'a, N, S> {
         ensures fits { IfOk result (λ event. Fits rooms.now event) }
         ensures queued { OnOk result (HasQueued self.old → HasQueued self.new) }
         ensures first { IfOk result (λ event. HasQueued self.old → HearsFirst idle.now event self.old self.new) }
+        ensures portion { self.new.buffer.portion ≡ self.old.buffer.portion }
+        ensures within { IfOk result (λ event. FitsPortion self.old.buffer.portion event) }
     {
         for _ in 0..self.ready.len() {
             let Some(number) = take_next(&mut self.ready, idle) else {
@@ -279,6 +290,8 @@ impl<'a, N: Net + Clock, S: Wire> Sockets<'a, N, S> {
         ensures queued { OnOk result (HadQueued number self.old → HasQueued self.new) }
         ensures first { IfOk result (λ event. ((k : ℕ) → number ≡ 0 → Contains idle.now k → could_read self.old.upstreams.items k ≡ false)
             → HearsFirst idle.now event self.old self.new) }
+        ensures portion { self.new.buffer.portion ≡ self.old.buffer.portion }
+        ensures within { IfOk result (λ event. FitsPortion self.old.buffer.portion event) }
     {
         if number != CLIENT {
             return self.read_upstream(number, rooms);
@@ -302,6 +315,8 @@ impl<'a, N: Net + Clock, S: Wire> Sockets<'a, N, S> {
         ensures queued { OnOk result (0 < number → HadQueued number self.old → HasQueued self.new) }
         ensures heard { self.new.heard_at ≡ self.old.heard_at }
         ensures told { IfOk result (λ event. is_of_client event ≡ false) }
+        ensures portion { self.new.buffer.portion ≡ self.old.buffer.portion }
+        ensures within { IfOk result (λ event. FitsPortion self.old.buffer.portion event) }
     {
         let Some(place) = place_of(number, &self.upstreams) else {
             return Ok(None);
@@ -325,6 +340,8 @@ impl<'a, N: Net + Clock, S: Wire> Sockets<'a, N, S> {
         ensures queued { OnOk result (HadQueued 0 self.old → HasQueued self.new) }
         ensures looks { self.new.looks ≡ self.old.looks }
         ensures heard { IfOk result (λ event. self.new.heard_at ≡ (if is_of_client event then self.old.looks else self.old.heard_at)) }
+        ensures portion { self.new.buffer.portion ≡ self.old.buffer.portion }
+        ensures within { IfOk result (λ event. FitsPortion self.old.buffer.portion event) }
     {
         self.is_client_queued = false;
         let got = self.read_of_client()?;
@@ -344,6 +361,8 @@ impl<'a, N: Net + Clock, S: Wire> Sockets<'a, N, S> {
         ensures unread { may_read 1073741824 self.old.client ≡ false → IsOkAnd result (λ got. got ≡ Got.Nothing) × (self.new.client ≡ self.old.client) }
         ensures queues { (self.new.ready ≡ self.old.ready) × (self.new.writes ≡ self.old.writes) × (self.new.is_client_queued ≡ self.old.is_client_queued) }
         ensures heard { (self.new.heard_at ≡ self.old.heard_at) × (self.new.looks ≡ self.old.looks) }
+        ensures portion { self.new.buffer.portion ≡ self.old.buffer.portion }
+        ensures within { IfOk result (λ got. IsWithin (portion_size self.old.buffer.portion) got) }
     {
         if self.may_read_client() {
             return Ok(self.buffer.read(self.alloc, &mut self.client)?);
@@ -368,6 +387,7 @@ impl<'a, N: Net + Clock, S: Wire> Sockets<'a, N, S> {
         ensures listed { OnOk result ((self.old.is_client_queued ≡ true → Contains self.old.ready.items 0)
             → IsClientListed self.new.ready.items self.new.is_client_queued self.new.client) }
         ensures heard { (self.new.heard_at ≡ self.old.heard_at) × (self.new.looks ≡ self.old.looks) }
+        ensures portion { self.new.buffer.portion ≡ self.old.buffer.portion }
     {
         if self.client_joins() {
             self.is_client_queued = true;
@@ -392,6 +412,7 @@ impl<'a, N: Net + Clock, S: Wire> Sockets<'a, N, S> {
         ensures queued { HasQueued self.old → HasQueued self.new }
         ensures heard { self.new.heard_at ≡ self.old.heard_at }
         ensures told { is_of_client result ≡ false }
+        ensures portion { self.new.buffer.portion ≡ self.old.buffer.portion }
     {
         if let Some(event) = self.tell_upstream() {
             return Some(event);
@@ -406,6 +427,7 @@ impl<'a, N: Net + Clock, S: Wire> Sockets<'a, N, S> {
         ensures queued { HasQueued self.old → HasQueued self.new }
         ensures heard { self.new.heard_at ≡ self.old.heard_at }
         ensures told { is_of_client result ≡ false }
+        ensures portion { self.new.buffer.portion ≡ self.old.buffer.portion }
     {
         for _ in 0..self.writes.len() {
             let k = self.writes.pop_front()?;
@@ -426,6 +448,7 @@ impl<'a, N: Net + Clock, S: Wire> Sockets<'a, N, S> {
         ensures queued { HasQueued self.old → HasQueued self.new }
         ensures heard { self.new.heard_at ≡ self.old.heard_at }
         ensures told { is_of_client result ≡ false }
+        ensures portion { self.new.buffer.portion ≡ self.old.buffer.portion }
     {
         let count = self.client.tell(least);
         if count > 0 {
@@ -442,6 +465,7 @@ impl<'a, N: Net + Clock, S: Wire> Sockets<'a, N, S> {
         ensures queued { OnOk result (HasQueued self.old → HasQueued self.new) }
         ensures heard { self.new.heard_at ≡ self.old.heard_at }
         ensures looked { OnOk result (is_alone self.old.reporting ≡ true → (self.new.heard_at == self.new.looks) ≡ false) }
+        ensures portion { self.new.buffer.portion ≡ self.old.buffer.portion }
     {
         let Reporting::Own(own) = &mut self.reporting else {
             return Ok(());
@@ -475,6 +499,7 @@ impl<'a, N: Net + Clock, S: Wire> Sockets<'a, N, S> {
         ensures looked { (self.new.heard_at == self.new.looks) ≡ false }
         ensures ready { self.new.ready.items ≡ client_last self.old.ready.items }
         ensures stand { (number : ℕ) → Contains self.old.ready.items number → Contains self.new.ready.items number }
+        ensures portion { self.new.buffer.portion ≡ self.old.buffer.portion }
     {
         self.looks = look_behind(self.looks, self.heard_at);
         let count = self.ready.len();
@@ -507,6 +532,16 @@ impl<'a, N: Net + Clock, S: Wire> Sockets<'a, N, S> {
             &mut self.ready,
             &mut self.writes,
         )
+    }
+
+    /// Notes of those upstreams that are idle now that they are, and ends those that were for so
+    /// long.
+    pub(crate) fn note_idle(&mut self, idle: &[u32], now: Instant, most: Duration)
+        ensures moves { MovesOn S.left S.held (Ok None) self.old.client self.old.upstreams.items self.new.client self.new.upstreams.items }
+        ensures queued { HasQueued self.old → HasQueued self.new }
+        ensures stays { self.new ≡ record self.old { upstreams = self.new.upstreams } }
+    {
+        note_idle_all(idle, now, most, &mut self.upstreams);
     }
 
     /// Notes what was reported of the client's socket, and writes what waits for it, if it takes

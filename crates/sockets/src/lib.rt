@@ -6,6 +6,7 @@ mod buffer;
 mod connections;
 mod departure;
 mod leaving;
+mod portion;
 mod queues;
 mod reactor;
 mod reporting;
@@ -17,6 +18,7 @@ mod world;
 
 pub use buffer::Buffer;
 pub use departure::Departure;
+pub use portion::Portion;
 pub use reactor::Reactor;
 pub use reporting::{client_in, number_in, token_in};
 pub use side::Side;

@@ -1,6 +1,6 @@
 //! The queues of upstreams of which something may be read, and of those that may have taken octets.
 
-ghost use Rattle.std.specs.Prelude.{◌≡◌, ◌<◌, ◌∷◌, ℕ, Option, Some, Ok, true, false, length, IfSome, IfNone, OnOk, get_or};
+ghost use Rattle.std.specs.Prelude.{◌≡◌, ◌<◌, ◌∷◌, ℕ, List, Option, Some, Ok, true, false, length, IfSome, IfNone, OnOk, get_or};
 ghost use Rattle.sockets.specs.Performed.{AreRising, IsOpenNowhere, AllGoOn};
 ghost use Rattle.sockets.specs.Noting.{NotesOne};
 ghost use Rattle.sockets.specs.Queues.{Grows, StandsIn, IsMarked, IsListed, AllListed, is_clients_turn};
@@ -14,6 +14,7 @@ use driver::WorldFault;
 use mio::event::Event as Report;
 use mio::{Events, Registry};
 use std::collections::VecDeque;
+use std::time::{Duration, Instant};
 
 /// The client's number among the sockets. Connections to upstreams count from 1.
 pub(crate) const CLIENT: u32 = 0;
@@ -119,6 +120,32 @@ pub(crate) fn heed<S: Wire>(
     let upstream = &mut upstreams[place];
     upstream.heed(report, registry);
     list(upstream, ready, writes)
+}
+
+/// Notes of those upstreams that are idle now that they are, and ends those that were for so long.
+pub(crate) fn note_idle_all<S: Wire>(
+    idle: &[u32],
+    now: Instant,
+    most: Duration,
+    upstreams: &mut Vec<Upstream<S>>,
+)
+    ensures goes { AllGoOn S.left S.held no_news upstreams.old.items upstreams.new.items }
+    ensures listed { (ready writes : List ℕ) → AllListed 0 ready writes upstreams.old.items → AllListed 0 ready writes upstreams.new.items }
+{
+    for number in idle {
+        note_idle(*number, now, most, upstreams);
+    }
+}
+
+/// Notes of an upstream, if it is open, that it is idle now, and ends it if it was for so long.
+fn note_idle<S: Wire>(number: u32, now: Instant, most: Duration, upstreams: &mut Vec<Upstream<S>>)
+    ensures goes { AllGoOn S.left S.held no_news upstreams.old.items upstreams.new.items }
+    ensures listed { (ready writes : List ℕ) → AllListed 0 ready writes upstreams.old.items → AllListed 0 ready writes upstreams.new.items }
+{
+    if let Some(place) = place_of(number, upstreams) {
+        let upstream = &mut upstreams[place];
+        upstream.note_idle(now, most);
+    }
 }
 
 /// Lists an upstream where it belongs by now: among those of which something may be read, and among

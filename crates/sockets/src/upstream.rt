@@ -1,6 +1,7 @@
 //! The connections to upstreams.
 
-ghost use Rattle.std.specs.Prelude.{◌≡◌, ◌≢◌, ◌<◌, ◌↔◌, ◌&&◌, ◌||◌, [], false, not, length, Some, Ok, Err, IsTrue, IfOk, IsOkAnd, OnOk, OnErr, IfSome, IfNone};
+ghost use Rattle.std.specs.Prelude.{◌≡◌, ◌≢◌, ◌<◌, ◌↔◌, ◌&&◌, ◌||◌, [], false, not, length, Some, Ok, Err, IsTrue, IfOk, IsOkAnd, OnOk, OnErr, IfSome, IfNone, unwrap_or};
+ghost use Rattle.std.specs.Duration.{as_nanos};
 ghost use Rattle.std.specs.declared.io.Error.{Error};
 ghost use Rattle.std.specs.declared.result.Result.{Result};
 ghost use Rattle.socket_io.specs.declared.incoming.Got.{Got};
@@ -8,6 +9,8 @@ ghost use Rattle.sockets.specs.Performed.{Sends, GoesBy, FitsRoom};
 ghost use Rattle.sockets.specs.Sides.{no_news, lost_news, took_news, may_be_ready, owes, is_ready, is_deaf, is_lost};
 ghost use Rattle.sockets.specs.Sides.{SendsFront, GoesOn, IsOf, Tells, heard_of, note_side, side_told, count_told};
 ghost use Rattle.sockets.specs.Sides.{side_given_up, out_of, KeepsHeard};
+ghost use Rattle.sockets.specs.Queues.{took_untold};
+ghost use Rattle.sockets.specs.Leaving.{since};
 
 use crate::side::Side;
 use crate::wire::Wire;
@@ -19,6 +22,7 @@ use std::alloc::Global;
 use std::io;
 use std::io::ErrorKind;
 use std::net::SocketAddr;
+use std::time::{Duration, Instant};
 
 /// A connection to an upstream, by its number.
 #[derive(Drop)]
@@ -35,6 +39,8 @@ pub struct Upstream<S> {
     is_queued: bool,
     /// It stands among those of which it may have to be told what they took.
     is_listed: bool,
+    /// When it was first noted that it is idle, if nothing was put out for it since.
+    idle_since: Option<Instant>,
 }
 
 impl<S: Wire> Upstream<S> {
@@ -52,6 +58,7 @@ impl<S: Wire> Upstream<S> {
             broken: false,
             is_queued: false,
             is_listed: false,
+            idle_since: None,
         }
     }
 
@@ -151,6 +158,34 @@ impl<S: Wire> Upstream<S> {
         }
     }
 
+    /// Notes that it is idle now. Where it was for so long, what its server sends is ended: what
+    /// came before is still read, and then an end, as where its server had ended it. A socket that
+    /// can't be shut is over, which is reported.
+    pub fn note_idle(&mut self, now: Instant, most: Duration)
+        ensures goes { GoesOn S.left S.held no_news self.old self.new }
+        ensures stays { self.new ≡ record self.old { side = self.new.side; idle_since = self.new.idle_since } }
+        ensures noted { self.new.idle_since ≡ Some (unwrap_or self.old.idle_since now) }
+        ensures early { since now (unwrap_or self.old.idle_since now) < as_nanos most → self.new.side ≡ self.old.side }
+        ensures marks { (may_be_ready self.new.side ≡ may_be_ready self.old.side) × (took_untold self.new.side ≡ took_untold self.old.side) }
+    {
+        let since = self.idle_since.unwrap_or(now);
+        self.idle_since = Some(since);
+        if now.duration_since(since) >= most {
+            self.end();
+        }
+    }
+
+    /// Ends what its server sends.
+    fn end(&mut self)
+        ensures goes { GoesOn S.left S.held no_news self.old self.new }
+        ensures stays { self.new ≡ record self.old { side = self.new.side } }
+        ensures marks { (may_be_ready self.new.side ≡ may_be_ready self.old.side) × (took_untold self.new.side ≡ took_untold self.old.side) }
+    {
+        if let Some(side) = &mut self.side {
+            let _ = side.end();
+        }
+    }
+
     /// Puts octets out. Where its socket failed they are dropped.
     pub fn put(&mut self, registry: &Registry, octets: &[u8]) -> Result<(), WorldFault>
         ensures front { SendsFront S.left S.held octets.now self.old self.new }
@@ -163,6 +198,7 @@ impl<S: Wire> Upstream<S> {
         let Some(side) = &mut self.side else {
             return Ok(());
         };
+        self.idle_since = None;
         match side.put(registry, octets) {
             Ok(()) => Ok(()),
             Err(PutFault::Socket(error)) => {

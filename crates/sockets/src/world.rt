@@ -11,6 +11,7 @@ ghost use Rattle.sockets.specs.Tokens.{number_of_client, token_number, IsOfAnoth
 ghost use Rattle.sockets.specs.Queues.{HasQueued, client_last, is_late, is_behind};
 ghost use Rattle.sockets.specs.Idle.{could_read};
 ghost use Rattle.sockets.specs.Moves.{MovesBy};
+ghost use Rattle.sockets.specs.Portions.{FitsPortion};
 ghost use Rattle.driver.specs.Calls.{HearsIdleFirst};
 ghost use Rattle.driver.specs.Calls.Call.{Asked, Applied};
 ghost use Rattle.sockets.specs.Sides.{no_news, lost_news, IsBegun, Goes};
@@ -27,7 +28,7 @@ use mio::Registry;
 use mio::event::Event as Report;
 use std::alloc::Global;
 use std::net::{Net, SocketAddr};
-use std::time::{Clock, Instant};
+use std::time::{Clock, Duration, Instant};
 use std::{io, mem};
 
 /// One client, and the upstreams that are opened for it, over sockets that don't wait. It stores no
@@ -182,6 +183,21 @@ impl<'a, N: Net + Clock, S: Wire> SocketWorld<'a, N, S> {
         self.sockets.hear(report)
     }
 
+    /// Notes that these connections are idle now. One of which that was noted for so long, and for
+    /// which nothing was put out since, ends as where its server had ended it: what its server sent
+    /// before is still read.
+    pub fn note_idle(&mut self, idle: &[u32], now: Instant, most: Duration)
+        ensures calls { self.new.calls ≡ self.old.calls }
+        ensures failures { self.new.failures ≡ self.old.failures }
+        ensures client { self.new.sockets.client ≡ self.old.sockets.client }
+        ensures moves { MovesOn S.left S.held (Ok None) self.old.sockets.client self.old.sockets.upstreams.items self.new.sockets.client
+            self.new.sockets.upstreams.items }
+        ensures queued { HasQueued self.old.sockets → HasQueued self.new.sockets }
+        ensures quiet { self.new.is_quiet ≡ self.old.is_quiet }
+    {
+        self.sockets.note_idle(idle, now, most);
+    }
+
     /// Ends what the client sends: what came of it before is still read, and then its end, as where
     /// it had ended that itself.
     pub fn end_client(&mut self) -> io::Result<()>
@@ -276,6 +292,9 @@ impl<'a, N: Net + Clock, S: Wire> World for SocketWorld<'a, N, S> {
         ensures hears_on { OnOk result (HasQueued self.old.sockets → HasQueued self.new.sockets) }
         ensures quiet { IfOk result (λ next. self.new.is_quiet ≡ (is_nothing next && not (is_late self.new.sockets))) }
         ensures moved { IfOk result (λ next. self.new.has_moved ≡ (self.old.has_moved || moves_client next)) }
+        // Of the client come no more octets than it is read by at a time.
+        ensures portion { self.new.sockets.buffer.portion ≡ self.old.sockets.buffer.portion }
+        ensures within { IfOk (told_by result) (λ event. FitsPortion self.old.sockets.buffer.portion event) }
     {
         self.calls += 1;
         match self.sockets.find_next(rooms, idle) {

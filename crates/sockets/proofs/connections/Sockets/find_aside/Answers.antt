@@ -1,4 +1,7 @@
-use Rattle.std.specs.Prelude.{None, Ok}
+use Rattle.std.proofs.Common.{subst}
+use Rattle.std.specs.Prelude.{None, Ok, IfOk}
+use Rattle.sockets.specs.Portions.{FitsPortion}
+use Rattle.sockets.proofs.Portions.{others_fit}
 use Rattle.sockets.proofs.Moving.{moves_quiet, moves_twice, moves_failed}
 use Rattle.sockets.proofs.Idling.{hears_from, hears_other}
 use Rattle.sockets.proofs.connections.Sockets.find_aside.Goals as goal
@@ -22,3 +25,9 @@ returns-clause-moves g c =
 
 pub returns-in-Some-clause-fits : goal.returns-in-Some-clause-fits
 returns-in-Some-clause-fits g c = rw c.in-Some.is at c.tell_in_turn.ensures.fits c.args.rooms.now
+
+pub returns-then-self-eq0-clause-within : goal.returns-then-self-eq0-clause-within
+returns-then-self-eq0-clause-within g c = subst (λ portion. IfOk c.read_ready.result (λ event. FitsPortion portion event)) c.look.ensures.portion c.read_ready.ensures.within
+
+pub returns-in-Some-clause-within : goal.returns-in-Some-clause-within
+returns-in-Some-clause-within g c = subst (FitsPortion _) c.in-Some.is (others_fit _ c.tell_in_turn.result c.tell_in_turn.ensures.told)

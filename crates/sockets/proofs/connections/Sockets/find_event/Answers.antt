@@ -1,6 +1,8 @@
 use Rattle.std.proofs.Common.{subst}
 use Rattle.std.specs.Prelude.{None, Ok}
 use Rattle.sockets.specs.Performed.{Fits}
+use Rattle.sockets.specs.Portions.{FitsPortion}
+use Rattle.sockets.proofs.Portions.{others_fit}
 use Rattle.sockets.proofs.Moving.{moves_twice, moves_on, moves_failed, moves_quiet, client_moves, side_flushed}
 use Rattle.sockets.proofs.connections.Sockets.find_event.Goals as goal
 
@@ -45,3 +47,17 @@ returns-clause-moves g c =
 
 pub returns-clause-fits : goal.returns-clause-fits
 returns-clause-fits g c = c.tell_client-2.ensures.fits c.args.rooms.now
+
+pub returns-in-Some-clause-within : goal.returns-in-Some-clause-within
+returns-in-Some-clause-within g c = subst (FitsPortion _) c.in-Some.is (others_fit _ c.tell_client.result c.tell_client.ensures.told)
+
+pub returns-in-Some-2-clause-within : goal.returns-in-Some-2-clause-within
+returns-in-Some-2-clause-within g c =
+    rw (← c.in-Some-2.is) (subst (λ portion. FitsPortion portion c.in_ok-event.field-0) c.tell_client.ensures.portion c.in_ok-event.ensures.within)
+
+pub returns-in-Some-tell_upstream-clause-within : goal.returns-in-Some-tell_upstream-clause-within
+returns-in-Some-tell_upstream-clause-within g c =
+    subst (FitsPortion _) c.in-Some-tell_upstream.is (others_fit _ c.tell_upstream.result c.tell_upstream.ensures.told)
+
+pub returns-clause-within : goal.returns-clause-within
+returns-clause-within g c = others_fit _ c.tell_client-2.result c.tell_client-2.ensures.told

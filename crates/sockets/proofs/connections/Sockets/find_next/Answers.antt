@@ -1,4 +1,6 @@
-use Rattle.std.specs.Prelude.{None, Ok}
+use Rattle.std.proofs.Common.{◌∙◌, subst}
+use Rattle.std.specs.Prelude.{None, Ok, IfOk}
+use Rattle.sockets.specs.Portions.{FitsPortion}
 use Rattle.sockets.proofs.Moving.{moves_twice, moves_on, moves_failed, moves_quiet}
 use Rattle.sockets.proofs.connections.Sockets.find_next.Goals as goal
 
@@ -30,3 +32,12 @@ returns-clause-moves g c =
     let aside = moves_quiet _ _ c.in_ok-event.field-0 _ _ _ _ c.in_default.is c.in_ok-event.ensures.moves in
     let there = moves_quiet _ _ c.in_ok-event-2.field-0 _ _ _ _ c.in_default-2.is c.in_ok-event-2.ensures.moves in
     moves_twice _ _ _ _ _ _ _ _ _ aside (moves_twice _ _ _ _ _ _ _ _ _ there (moves_twice _ _ _ _ _ _ _ _ _ c.look.ensures.moves c.find_event-2.ensures.moves))
+
+pub returns-in-Some-2-clause-within : goal.returns-in-Some-2-clause-within
+returns-in-Some-2-clause-within g c =
+    rw (← c.in-Some-2.is) (subst (λ portion. FitsPortion portion c.in_ok-event-2.field-0) c.find_aside.ensures.portion c.in_ok-event-2.ensures.within)
+
+pub returns-clause-within : goal.returns-clause-within
+returns-clause-within g c =
+    let same = c.look.ensures.portion ∙ (c.find_event.ensures.portion ∙ c.find_aside.ensures.portion) in
+    subst (λ portion. IfOk c.find_event-2.result (λ event. FitsPortion portion event)) same c.find_event-2.ensures.within

@@ -3,6 +3,7 @@ use Rattle.std.specs.Prelude.{true, false}
 use Rattle.sockets.specs.Sides.{Goes, lost_news}
 use Rattle.sockets.specs.Performed.{AllGoOn, got_news}
 use Rattle.sockets.proofs.Moving.{all_lost, all_still, moves_lost}
+use Rattle.sockets.proofs.Portions.{heard_fits}
 use Rattle.sockets.proofs.Events.{fits_heard, got_lost, heard_moves}
 use Rattle.sockets.specs.Queues.{Grows}
 use Rattle.sockets.proofs.Queueing.{rest_listed, still_queued}
@@ -46,3 +47,6 @@ returns-clause-queued g c = λ before.
           (rw (ap (λ us. us.items) (c.queue_client.ensures.upstreams ∙ c.read_of_client.ensures.upstreams))
           (rest_listed 0 0 (0 ∷ old.ready.items) old.writes.items ready old.writes.items old.upstreams.items (λ v. still_queued 0 old.ready.items ready old.writes.items v grows) (omega arith) before.all_are));
     }
+
+pub returns-clause-within : goal.returns-clause-within
+returns-clause-within g c = rw c.client_event.ensures (heard_fits _ c.in_ok-got.got c.in_ok-got.ensures.within)

@@ -9,4 +9,5 @@ invariant-loop g l = record {
   moves : MovesOn g.S.Socket.left g.S.Socket.held (Ok None) l.fn.self.client l.fn.self.upstreams.items l.self.client l.self.upstreams.items;
   queued : HasQueued l.fn.self → HasQueued l.self;
   heard : HasQueued l.fn.self → l.self.heard_at ≡ l.fn.self.heard_at;
+  portion : l.self.buffer.portion ≡ l.fn.self.buffer.portion;
 }

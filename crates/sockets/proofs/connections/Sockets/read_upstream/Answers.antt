@@ -11,6 +11,7 @@ use Rattle.std.specs.List.{remove}
 use Rattle.sockets.specs.Queues.{IsListed, AllListed, IsClientListed}
 use Rattle.sockets.proofs.Queueing.{grows_still, listed_at, still_queued, requeued, numbers_rise, none_listed, one_listed, one_removed, client_on, client_still}
 use Rattle.sockets.proofs.Idling.{of_upstream}
+use Rattle.sockets.proofs.Portions.{others_fit}
 use Rattle.sockets.proofs.connections.Sockets.read_upstream.Goals as goal
 use Rattle.sockets.proofs.connections.Sockets.read_upstream.Goals.{then-is_failure+in-Some-1, then-is_failure+in-None-1, else-is_failure+in_ok-join_ready}
 
@@ -120,3 +121,6 @@ returns-clause-queued g c = λ up before.
 
 pub returns-clause-told : goal.returns-clause-told
 returns-clause-told g c = of_upstream c.in_ok-event.event _ c.in_ok-event.ensures.event
+
+pub returns-clause-within : goal.returns-clause-within
+returns-clause-within g c = others_fit _ c.in_ok-event.event (of_upstream c.in_ok-event.event _ c.in_ok-event.ensures.event)

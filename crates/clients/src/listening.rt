@@ -20,12 +20,8 @@ pub fn serve_clients(rt: &HostRuntime, setting: &Setting) -> Result<(), Stop>
     requires { IsServable (setup_of setting.now.config) }
     ensures { IfErr result (λ stop. 2 ≤ status_of stop) }
 {
-    let Ok(listener) = TcpListener::bind(rt, setting.listen) else {
-        return Err(Stop::Bind);
-    };
-    let Ok(address) = listener.local_addr() else {
-        return Err(Stop::Bind);
-    };
+    let listener = TcpListener::bind(rt, setting.listen).map_err(|error| Stop::Bind(error))?;
+    let address = listener.local_addr().map_err(|error| Stop::Bind(error))?;
     println!(rt; "listening {address}").map_err(|_| Stop::Print)?;
     if is_plain(setting) {
         serve_at(rt, setting, &listener)

@@ -190,6 +190,7 @@ impl<S: Wire> Upstream<S> {
     /// answer is whether it does by now.
     pub fn give_up(&mut self) -> bool
         ensures gives { result ≡ not (may_be_ready self.old.side) }
+        ensures stands { (self.new.is_queued ≡ self.old.is_queued) × (self.new.is_listed ≡ self.old.is_listed) }
         ensures given { self.new ≡ (if may_be_ready self.old.side then self.old else record self.old { broken = true; side = side_given_up self.old.side }) }
         ensures goes { GoesOn S.left S.held no_news self.old self.new }
     {

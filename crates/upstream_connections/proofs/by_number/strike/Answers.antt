@@ -4,7 +4,7 @@ use Rattle.std.proofs.lemmas.Bool.{cases_lt}
 use Rattle.std.proofs.lemmas.List.Sorted.{searched}
 use Rattle.upstream_connections.specs.Connections.{others, Rise}
 use Rattle.upstream_connections.proofs.Numbers.{none_falls, not_there, struck}
-use Rattle.upstream_connections.proofs.idle.strike.Goals as goal
+use Rattle.upstream_connections.proofs.by_number.strike.Goals as goal
 
 pub returns-in-Ok : goal.returns-in-Ok
 returns-in-Ok c =

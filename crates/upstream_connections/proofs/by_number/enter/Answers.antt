@@ -2,7 +2,7 @@ use Rattle.std.proofs.Common.{◌≡◌, ℕ, List, ◌∙◌, subst}
 use Rattle.std.specs.List.{insert}
 use Rattle.upstream_connections.specs.Connections.{among}
 use Rattle.upstream_connections.proofs.Numbers.{inserted}
-use Rattle.upstream_connections.proofs.idle.enter.Goals as goal
+use Rattle.upstream_connections.proofs.by_number.enter.Goals as goal
 
 pub returns : goal.returns
 returns c =

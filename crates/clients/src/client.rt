@@ -302,7 +302,7 @@ impl<'a, N: Net + Clock, S: Wire> Serving<'a, N, S> {
     /// Its sockets, as serving it ends. There is a log of which what is promised holds, and what
     /// passed through them is what that tells.
     fn into_sockets(self) -> Watched<'a, N, SocketWorld<'a, N, S>>
-        ensures told { ∥ IsTold S.left S.held result.world.sockets ∥₁ }
+        ensures { ∥ IsTold S.left S.held result.world.sockets ∥₁ }
     {
         let Serving { sockets, .. } = self;
         sockets

@@ -309,13 +309,7 @@ impl<'a, N: Net + Clock, S: Wire> Serving<'a, N, S> {
     }
 
     /// Takes a round of turns, with a buffer that was lent for that.
-    fn take_turns(
-        &mut self,
-        clock: &N,
-        buffer: &mut Buffer,
-        is_told: bool,
-        is_alone: bool,
-    ) -> Round
+    fn take_turns(&mut self, clock: &N, buffer: &mut Buffer, is_told: bool, is_alone: bool) -> Round
         ensures turns { self.old.turns ≤ self.new.turns + 16 }
     {
         buffer.limit(self.portion_for(is_alone));

@@ -1,8 +1,9 @@
 //! For how long servers are waited for.
 
-ghost use Rattle.std.specs.Prelude.{◌≡◌, ◌+◌, ◌*◌, ◌<◌, ◌≤◌, ◌↔◌, ◌-◌, IsTrue, Some, None, [], false, true, unwrap_or, if◌then◌else◌};
+ghost use Rattle.std.specs.Prelude.{◌≡◌, ◌+◌, ◌*◌, ◌<◌, ◌≤◌, ◌↔◌, ◌-◌, IsTrue, Some, None, [], false, true, unwrap_or, OnOk, OnErr, if◌then◌else◌};
 ghost use Rattle.std.specs.Duration.{as_nanos};
 ghost use Rattle.std.specs.Time.{instant_nanos};
+ghost use Rattle.clients.specs.Serving.{StaysServed, FailsServed};
 
 use driver::WorldFault;
 use h2gw_setup::setting::Setting;
@@ -160,6 +161,8 @@ impl Waits {
     ) -> Result<bool, WorldFault>
         ensures calls { world.new.calls ≡ world.old.calls }
         ensures failures { world.new.failures ≡ world.old.failures }
+        ensures stays { OnOk result (StaysServed S.left S.held world.old.sockets world.new.sockets) }
+        ensures fails { OnErr result (FailsServed S.left S.held world.old.sockets world.new.sockets) }
     {
         look_all(&mut self.waits, idle, now, limits, world)
     }
@@ -175,6 +178,8 @@ fn look_all<N: Net + Clock, S: Wire>(
 ) -> Result<bool, WorldFault>
     ensures calls { world.new.calls ≡ world.old.calls }
     ensures failures { world.new.failures ≡ world.old.failures }
+    ensures stays { OnOk result (StaysServed S.left S.held world.old.sockets world.new.sockets) }
+    ensures fails { OnErr result (FailsServed S.left S.held world.old.sockets world.new.sockets) }
 {
     let mut has_late = false;
     for wait in waits {
@@ -193,10 +198,13 @@ fn give_up_if<N: Net + Clock, S: Wire>(
 ) -> Result<bool, WorldFault>
     ensures calls { world.new.calls ≡ world.old.calls }
     ensures failures { world.new.failures ≡ world.old.failures }
+    ensures stays { OnOk result (StaysServed S.left S.held world.old.sockets world.new.sockets) }
+    ensures fails { OnErr result (FailsServed S.left S.held world.old.sockets world.new.sockets) }
 {
-    if !is_late || !world.give_up(wait.k)? {
+    if !is_late {
         return Ok(false);
     }
-    wait.is_late = true;
-    Ok(true)
+    let is_given_up = world.give_up(wait.k)?;
+    wait.is_late = wait.is_late || is_given_up;
+    Ok(is_given_up)
 }

@@ -583,6 +583,8 @@ impl<'a, N: Net + Clock, S: Wire> Sockets<'a, N, S> {
     /// An upstream is waited for no longer: it counts as failed, if it is open, unless something may
     /// be read of it. The answer is whether it does by now.
     pub(crate) fn give_up(&mut self, number: u32) -> Result<bool, WorldFault>
+        ensures addresses { self.new.addresses ≡ self.old.addresses }
+        ensures number { number_of_client self.new.reporting ≡ number_of_client self.old.reporting }
         ensures moves { MovesOn S.left S.held (Ok None) self.old.client self.old.upstreams.items self.new.client self.new.upstreams.items }
         ensures queued { OnOk result (HasQueued self.old → HasQueued self.new) }
     {

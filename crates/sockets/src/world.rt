@@ -1,6 +1,6 @@
 //! The world of sockets.
 
-ghost use Rattle.std.specs.Prelude.{◌≡◌, ◌+◌, ◌<◌, ◌^◌, None, Some, Ok, Err, [], ◌∷◌, ◌++◌, false, true, not, List, IfOk, OnOk, OnErr, ◌&&◌, ◌||◌, is_ok, if◌then◌else◌};
+ghost use Rattle.std.specs.Prelude.{◌≡◌, ◌+◌, ◌<◌, ◌^◌, None, Some, Ok, Err, [], ◌∷◌, ◌++◌, false, true, not, List, Result, ⊤, IfOk, OnOk, OnErr, ◌&&◌, ◌||◌, is_ok, if◌then◌else◌};
 ghost use Rattle.model.specs.Logs.{Step};
 ghost use Rattle.effects.specs.Views.{output_of};
 ghost use Rattle.driver.specs.Worlds.{AddsEvent, AddsHanded, KeepsRooms, SaysOver, with_outputs};
@@ -212,6 +212,7 @@ impl<'a, N: Net + Clock, S: Wire> SocketWorld<'a, N, S> {
             self.new.sockets.upstreams.items }
         ensures queued { OnOk result (HasQueued self.old.sockets → HasQueued self.new.sockets) }
         ensures quiet { self.new.is_quiet ≡ false }
+        ensures moved_by { (answer : Result ⊤ WorldFault) → Steps S.left S.held (Aside answer) (seen_in self.old.sockets) (seen_in self.new.sockets) }
     {
         self.is_quiet = false;
         self.sockets.give_up(k)

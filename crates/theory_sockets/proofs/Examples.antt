@@ -28,27 +28,27 @@ log : List Step
 log = taken ∷ asked_again ∷ ended ∷ answered ∷ asked ∷ []
 
 in_order : items (answered ∷ asked ∷ []) ≡ Put (ToClient (codes "ok")) ∷ Came (Up 1 (codes "200")) ∷ Put (Does (ToUp 1 (codes " /"))) ∷ Put (Does (ToUp 1 (codes "GET"))) ∷ Put (Does (Open 1 0)) ∷ Came (Client (codes "ask")) ∷ []
-unfolding answered, asked
+unfolding answered asked
 in_order = refl
 
 of_the_client : client_told (items log) ≡ (record { came = codes "askin"; ended = false; put = codes "ok"; took = 2 })
-unfolding log, taken, asked_again, ended, answered, asked
+unfolding log taken asked_again ended answered asked
 of_the_client = refl
 
 -- While it is open.
 of_the_first : connection 1 (items (answered ∷ asked ∷ [])) ≡ Some (record { route = 0; told = record { came = codes "200"; ended = false; put = codes "GET /"; took = 0 } })
-unfolding answered, asked
+unfolding answered asked
 of_the_first = refl
 
 at_its_end : connection 1 (items (ended ∷ answered ∷ asked ∷ [])) ≡ Some (record { route = 0; told = record { came = codes "200"; ended = true; put = codes "GET /"; took = 0 } })
-unfolding ended, answered, asked
+unfolding ended answered asked
 at_its_end = refl
 
 -- The next one under its number begins anew.
 of_the_next : connection 1 (items log) ≡ Some (record { route = 3; told = record { came = []; ended = false; put = codes "PUT"; took = 0 } })
-unfolding log, taken, asked_again, ended, answered, asked
+unfolding log taken asked_again ended answered asked
 of_the_next = refl
 
 of_none : connection 2 (items log) ≡ None
-unfolding log, taken, asked_again, ended, answered, asked
+unfolding log taken asked_again ended answered asked
 of_none = refl

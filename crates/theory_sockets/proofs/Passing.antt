@@ -186,10 +186,10 @@ module _ {S : Type 0} (left held : S → Option (List ℕ)) where
   to_quiet told lost None None new came ended took p goes = (
     goes.0,
     ap (λ (t : Told). with_more t (record { came = came; ended = ended; put = []; took = took })) p.1
-    ∙ (ap (λ l. with_more (record nothing { put = lost }) (record { came = l; ended = ended; put = []; took = took })) goes.1.0
-    ∙ (ap (λ b. with_more (record nothing { put = lost }) (record { came = []; ended = b; put = []; took = took })) goes.1.1
-    ∙ (ap (λ n. with_more (record nothing { put = lost }) (record { came = []; ended = false; put = []; took = n })) goes.1.2
-    ∙ ap (λ l. record nothing { put = l }) (append-nil lost)))),
+        ∙ (ap (λ l. with_more (record nothing { put = lost }) (record { came = l; ended = ended; put = []; took = took })) goes.1.0
+        ∙ (ap (λ b. with_more (record nothing { put = lost }) (record { came = []; ended = b; put = []; took = took })) goes.1.1
+        ∙ (ap (λ n. with_more (record nothing { put = lost }) (record { came = []; ended = false; put = []; took = n })) goes.1.2
+        ∙ ap (λ l. record nothing { put = l }) (append-nil lost)))),
   )
   to_quiet told lost None (Some old) new came ended took p goes = absurd (let no : is_some (Some old) ≡ false = ap is_some p.0 in let never : true ≡ false = no in cc)
   to_quiet told lost (Some begun) None new came ended took p goes = absurd p

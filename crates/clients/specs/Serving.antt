@@ -1,11 +1,12 @@
 -- What serves a client stands for all that passed through its sockets from their beginning on.
-use Rattle.std.specs.Prelude.{◌≡◌, ℕ, Bool, false, List, All, Option, None, Some, Result, ⊤, ⊥}
+use Rattle.std.specs.Prelude.{◌≡◌, ℕ, Bool, false, List, All, Option, None, Some, Result, Err, unwrap_or, ⊤, ⊥}
 use Rattle.model.specs.Setup.{Setup}
 use Rattle.driver.specs.Calls.{Call, Along, Runs, WasServed}
 use Rattle.driver.specs.Calls.Call.{Asked, Applied, Aside}
 use Rattle.driver.specs.Services.{Served}
 use Rattle.driver.specs.declared.services.ServiceEnd.{ServiceEnd}
 use Rattle.driver.specs.declared.services.ServeFault.{ServeFault}
+use Rattle.driver.specs.declared.services.ServeFault.TheVariants.{World}
 use Rattle.sockets.specs.Moves.{Seen, Steps, seen_in}
 use Rattle.sockets.specs.Queues.{HasQueued}
 use Rattle.sockets.specs.Idle.{could_read}
@@ -31,6 +32,10 @@ heard_at sockets = sockets.heard_at
 
 abbrev pub looks : {N S Stream Listener : Type 0} → Sockets N S Stream Listener → ℕ
 looks sockets = sockets.looks
+
+-- A service whose world failed between two turns: with that serving it ended, unless it had before.
+abbrev pub failed : Served → Served
+failed service = record service { outcome = Some (unwrap_or service.outcome (Err World)) }
 
 -- where contracts name what passes through sockets
 module _ {S : Type 0} (left held : S → Option (List ℕ)) where
@@ -61,6 +66,14 @@ module _ {S : Type 0} (left held : S → Option (List ℕ)) where
       pub begun : Sockets N S Stream Listener
       pub is_new : IsNew (seen_in begun)
       pub stands : StandsBy service.outcome setup begun service now
+
+    -- Each service of which it was so is one of which it is so still.
+    abbrev pub StaysServed : Sockets N S Stream Listener → Sockets N S Stream Listener → Type 0
+    StaysServed old new = (service : Served) → IsServed service old → IsServed service new
+
+    -- Each is once it failed.
+    abbrev pub FailsServed : Sockets N S Stream Listener → Sockets N S Stream Listener → Type 0
+    FailsServed old new = (service : Served) → IsServed service old → IsServed (failed service) new
 
     -- There is a log of which what is promised holds, and what passed through the sockets is what it tells; then the world was called for nothing.
     pub record IsTold (now : Sockets N S Stream Listener) : Type 0 where

@@ -11,6 +11,7 @@ ghost use Rattle.clients.specs.Serving.{IsServed, IsTold};
 
 use crate::log::say_exchanges;
 use crate::pace::Pace;
+use crate::waits::{Limits, Waits};
 use crate::watched::Watched;
 use driver::{ServeFault, Service, ServiceEnd, WorldFault};
 use exchange_log::Exchanges;
@@ -118,6 +119,15 @@ fn exchanges_for(alloc: Global, setting: &Setting) -> Option<Exchanges>
     Some(Exchanges::new(alloc, most))
 }
 
+/// Where it is noted since when servers are waited for, if it is.
+fn waits_for(alloc: Global, setting: &Setting) -> Option<Waits> {
+    if Limits::of(setting).are_some() {
+        Some(Waits::new(alloc))
+    } else {
+        None
+    }
+}
+
 impl<'a> Client<'a> {
     /// A client that came, with this number, from 1 on. An error is the socket's or the clock's, or
     /// says that memory was refused.
@@ -141,7 +151,9 @@ impl<'a> Client<'a> {
             number,
             socket,
         )?;
-        let sockets = Watched::new(common.rt, world, exchanges_for(alloc, common.setting));
+        let exchanges = exchanges_for(alloc, common.setting);
+        let waits = waits_for(alloc, common.setting);
+        let sockets = Watched::new(common.rt, world, exchanges, waits);
         let serving = Serving::begin(service, sockets, common.setting.turns);
         Ok(Client {
             number,
@@ -249,6 +261,15 @@ impl<'a> Client<'a> {
             serving.end_idle(now, most);
         }
     }
+
+    /// Fails connections to servers that were waited for too long. The answer is whether one is. An
+    /// error says that the client is lost.
+    pub fn look(&mut self, now: Instant, limits: &Limits) -> Result<bool, WorldFault> {
+        match &mut self.serving {
+            Some(serving) => serving.look(now, limits),
+            None => Ok(false),
+        }
+    }
 }
 
 impl<'a, N: Net + Clock, S: Wire> Serving<'a, N, S> {
@@ -274,6 +295,18 @@ impl<'a, N: Net + Clock, S: Wire> Serving<'a, N, S> {
     /// Ends connections to servers that were idle for so long.
     fn end_idle(&mut self, now: Instant, most: Duration) {
         self.sockets.world.note_idle(self.service.idle(), now, most);
+    }
+
+    /// Fails connections to servers that were waited for too long. The answer is whether one is. An
+    /// error says that the client is lost, with which serving it ends.
+    fn look(&mut self, now: Instant, limits: &Limits) -> Result<bool, WorldFault> {
+        match self.sockets.look(self.service.idle(), now, limits) {
+            Ok(is_late) => Ok(is_late),
+            Err(fault) => {
+                self.service.fail();
+                Err(fault)
+            }
+        }
     }
 
     /// Notes what was reported of one of its sockets. An error says that the client is lost, with

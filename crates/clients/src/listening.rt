@@ -1,12 +1,13 @@
 //! The connections of clients.
 
-ghost use Rattle.std.specs.Prelude.{◌≡◌, ◌≤◌, ◌&&◌, ◌==◌, IfErr, not};
+ghost use Rattle.std.specs.Prelude.{◌≡◌, ◌+◌, ◌≤◌, ◌↔◌, IfErr, IsTrue, false};
 ghost use Rattle.gateway.specs.Setups.{setup_of, IsServable};
 ghost use Rattle.h2gw_setup.specs.Stops.{status_of};
 ghost use Rattle.sockets.specs.Moves.{seen_in};
 ghost use Rattle.theory_sockets.specs.Passed.{IsNew, IsServedBy};
 
 use crate::crowd::serve_crowd;
+use crate::waits::has_limits;
 use driver::{ServeFault, ServiceEnd, serve};
 use gateway::Config;
 use h2gw_setup::setting::Setting;
@@ -24,12 +25,8 @@ pub fn serve_clients(rt: &HostRuntime, setting: &Setting) -> Result<(), Stop>
     requires { IsServable (setup_of setting.now.config) }
     ensures { IfErr result (λ stop. 2 ≤ status_of stop) }
 {
-    let Ok(listener) = TcpListener::bind(rt, setting.listen) else {
-        return Err(Stop::Bind);
-    };
-    let Ok(address) = listener.local_addr() else {
-        return Err(Stop::Bind);
-    };
+    let listener = TcpListener::bind(rt, setting.listen).map_err(|error| Stop::Bind(error))?;
+    let address = listener.local_addr().map_err(|error| Stop::Bind(error))?;
     println!(rt; "listening {address}").map_err(|_| Stop::Print)?;
     if is_plain(setting) {
         serve_at(rt, setting, &listener)
@@ -38,15 +35,15 @@ pub fn serve_clients(rt: &HostRuntime, setting: &Setting) -> Result<(), Stop>
     }
 }
 
-/// Whether one client is served after another, however long it says nothing and connections to
-/// servers are idle, and none is told of.
+/// Whether one client is served after another, however long anything takes, and none is told of.
 /// This is the default, and has a way of its own (`serve_at`), which is the program's as it was
 /// first described: one client waits for another, an error of accept ends the program, and there is
 /// no reactor.
 fn is_plain(setting: &Setting) -> bool
-    ensures { result ≡ (((setting.now.clients == 1 && setting.now.idle == 0) && setting.now.keep_idle == 0) && not setting.now.is_logged) }
+    ensures { IsTrue result ↔ (setting.now.clients ≡ 1) × (setting.now.idle + setting.now.keep_idle + setting.now.connect + setting.now.answer ≡ 0)
+        × (setting.now.is_logged ≡ false) }
 {
-    setting.clients == 1 && setting.idle == 0 && setting.keep_idle == 0 && !setting.is_logged
+    setting.clients == 1 && !has_limits(setting) && !setting.is_logged
 }
 
 /// Serves the connections of clients at a listener, one after another.

@@ -6,12 +6,12 @@ use Rattle.clap.specs.declared.error.Error.{Error}
 use Rattle.clap.specs.declared.error.kind.ErrorKind.TheVariants.{OutOfMemory}
 use Rattle.clap.proofs.WalkLemmas.{first_value-rows}
 use Rattle.command_line.specs.declared.words.WordsFault.{WordsFault}
-use Rattle.command_line.specs.declared.words.WordsFault.TheVariants.{Clap, Missing, NotANumber, NotUtf8, Memory}
+use Rattle.command_line.specs.declared.words.WordsFault.TheVariants.{Clap, Missing, MissingBoth, NotANumber, NotUtf8, Memory}
 use Rattle.command_line.specs.declared.words.Word.TheVariants as value
 use Rattle.command_line.specs.declared.gateways.GatewayWords.{GatewayWords}
 use Rattle.command_line.specs.declared.replays.ReplayWords.{ReplayWords}
 use Rattle.std.specs.Prelude.{IsTrue, Some, codes, ◌↔◌}
-use Rattle.command_line.specs.Values.{name_of, IsCount, IsCountWithin}
+use Rattle.command_line.specs.Values.{name_of, IsCountWithin}
 use Rattle.command_line.specs.Gateways as gateways
 use Rattle.command_line.specs.Gateways.{gateway_app}
 use Rattle.command_line.specs.Replays as replays
@@ -41,12 +41,16 @@ gateway_means f a ws v p has = (
   record {
     config = has.config ∙ found_at f a gateway_app ws (name_of value.Config) p;
     listen = has.listen ∙ found_at f a gateway_app ws (name_of value.Listen) p;
-    connections = subst (λ o. IsCount o v.connections) (found_at f a gateway_app ws (name_of value.Connections) p) has.connections;
-    turns = subst (λ o. IsCount o v.turns) (found_at f a gateway_app ws (name_of value.Turns) p) has.turns;
+    place = subst gateways.HasPlace (gateway_found f a ws p) has.place;
+    connections = subst (λ o. IsCountWithin gateways.count_range o v.connections) (found_at f a gateway_app ws (name_of value.Connections) p) has.connections;
+    turns = subst (λ o. IsCountWithin gateways.count_range o v.turns) (found_at f a gateway_app ws (name_of value.Turns) p) has.turns;
     clients = subst (λ o. IsCountWithin gateways.clients_range o v.clients) (found_at f a gateway_app ws (name_of value.Clients) p) has.clients;
-    idle = subst (λ o. IsCountWithin gateways.idle_range o v.idle) (found_at f a gateway_app ws (name_of value.Idle) p) has.idle;
-    keep_idle = subst (λ o. IsCountWithin gateways.idle_range o v.keep_idle) (found_at f a gateway_app ws (name_of value.KeepIdle) p) has.keep_idle;
+    idle = subst (λ o. IsCountWithin gateways.seconds_range o v.idle) (found_at f a gateway_app ws (name_of value.Idle) p) has.idle;
+    keep_idle = subst (λ o. IsCountWithin gateways.seconds_range o v.keep_idle) (found_at f a gateway_app ws (name_of value.KeepIdle) p) has.keep_idle;
+    connect = subst (λ o. IsCountWithin gateways.seconds_range o v.connect) (found_at f a gateway_app ws (name_of value.Connect) p) has.connect;
+    answer = subst (λ o. IsCountWithin gateways.seconds_range o v.answer) (found_at f a gateway_app ws (name_of value.Answer) p) has.answer;
     is_logged = subst (λ o. IsTrue v.is_logged ↔ (o ≡ Some (codes "true"))) (found_at f a gateway_app ws (name_of value.Log) p) has.is_logged;
+    is_checked = subst (λ o. IsTrue v.is_checked ↔ (o ≡ Some (codes "true"))) (found_at f a gateway_app ws (name_of value.Check) p) has.is_checked;
   },
 )
 
@@ -54,6 +58,7 @@ pub gateway_refuses : (f : Found) (a : App) (ws : List Text) (r : WordsFault) �
 unfolding gateways.Refuses
 gateway_refuses f a ws (Clap e) p lacks = absurd lacks
 gateway_refuses f a ws (Missing w) p lacks = (faultless f a gateway_app ws p, subst (λ find. gateways.AreNoValues find (Missing w)) (gateway_found f a ws p) lacks)
+gateway_refuses f a ws MissingBoth p lacks = (faultless f a gateway_app ws p, subst (λ find. gateways.AreNoValues find MissingBoth) (gateway_found f a ws p) lacks)
 gateway_refuses f a ws (NotANumber w) p lacks = (faultless f a gateway_app ws p, subst (λ find. gateways.AreNoValues find (NotANumber w)) (gateway_found f a ws p) lacks)
 gateway_refuses f a ws NotUtf8 p lacks = absurd lacks
 gateway_refuses f a ws Memory p lacks = tt
@@ -72,6 +77,7 @@ pub replay_refuses : (f : Found) (a : App) (ws : List Text) (r : WordsFault) →
 unfolding replays.Refuses
 replay_refuses f a ws (Clap e) p lacks = absurd lacks
 replay_refuses f a ws (Missing w) p lacks = (faultless f a replay_app ws p, (lacks.0, sym (found_at f a replay_app ws (name_of w) p) ∙ lacks.1))
+replay_refuses f a ws MissingBoth p lacks = absurd lacks
 replay_refuses f a ws (NotANumber w) p lacks = absurd lacks
 replay_refuses f a ws NotUtf8 p lacks = absurd lacks
 replay_refuses f a ws Memory p lacks = tt

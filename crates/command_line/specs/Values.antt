@@ -1,11 +1,11 @@
 -- The values of a command line, as `clap` finds them.
-use Rattle.std.specs.Prelude.{◌≡◌, ◌<◌, ◌≤◌, ◌^◌, ℕ, Option, Some, None, codes}
+use Rattle.std.specs.Prelude.{◌≡◌, ◌<◌, ◌≤◌, ◌^◌, ℕ, true, Option, Some, None, codes}
 use Rattle.std.specs.Str.Parse.{IsNumeral, without_leading_plus, digits_value}
-use Rattle.clap.specs.Words.{Rule, Text, new_rule}
+use Rattle.clap.specs.Words.{App, Rule, Text, new_app, new_rule}
 use Rattle.clap.specs.declared.builder.action.ArgAction.TheVariants.{Set, SetTrue}
 use Rattle.command_line.specs.declared.values.Range.{Range}
 use Rattle.command_line.specs.declared.words.Word.{Word}
-use Rattle.command_line.specs.declared.words.Word.TheVariants.{Config, Listen, Connections, Turns, Script, Clients, Idle, KeepIdle, Log}
+use Rattle.command_line.specs.declared.words.Word.TheVariants.{Config, Listen, Connections, Turns, Script, Clients, Idle, KeepIdle, Connect, Answer, Log, Check}
 use Rattle.command_line.specs.declared.words.WordsFault.{WordsFault}
 use Rattle.command_line.specs.declared.words.WordsFault.TheVariants.{Missing, NotANumber}
 
@@ -19,7 +19,14 @@ name_of Script = codes "script"
 name_of Clients = codes "clients"
 name_of Idle = codes "idle"
 name_of KeepIdle = codes "keep-idle"
+name_of Connect = codes "connect"
+name_of Answer = codes "answer"
 name_of Log = codes "log"
+name_of Check = codes "check"
+
+-- a program that has no words yet but `--help` and `--version`
+abbrev pub program_app : Text → App
+program_app name = let app = new_app name in record app { top = record app.top { has_version = true } }
 
 -- `--name VALUE`, which may be left out and has one value
 abbrev pub option_rule : Word → Rule

@@ -4,15 +4,19 @@ ghost use Rattle.std.specs.Prelude.{◌≡◌, map, IfOk, IfErr};
 ghost use Rattle.clap.specs.Words.{app_of, found_of};
 ghost use Rattle.command_line.specs.Replays.{replay_app, HasValues, LacksValues, Means, Refuses};
 
-use crate::values::{fault_of, option, text_of, value};
+use crate::values::{command, fault_of, option, owned, text_of, value};
 use crate::words::{Word, WordsFault};
 use clap::{ArgMatches, Command};
 use std::alloc::{AllocError, Global};
 
-/// What `--help` says of each.
-const CONFIG: &str = "Where the configuration stands, a table of TOML";
+/// What `--help` says of the program, of how it is used, and of each word.
+const ABOUT: &str = "Runs the gateway over a script, and prints what it puts out";
 
-const SCRIPT: &str = "Where the script stands";
+const USAGE: &str = "h2replay [OPTIONS] SCRIPT";
+
+const CONFIG: &str = "Where the configuration stands, a table of TOML [default: one route for all]";
+
+const SCRIPT: &str = "Where the script stands (needed)";
 
 /// The values of the replay's command line.
 #[derive(Debug, Drop)]
@@ -23,8 +27,8 @@ pub struct ReplayWords {
     pub script: String,
 }
 
-/// Reads the replay's command line, from the program's name on: `[--config FILE] SCRIPT`. `--help`
-/// and what isn't such a line is a fault, and so is one without a script.
+/// Reads the replay's command line, from the program's name on: `[--config FILE] SCRIPT`. `--help`,
+/// `--version` and what isn't such a line is a fault, and so is one without a script.
 pub fn read_replay_words<'a>(alloc: Global, words: &'a [&'a str]) -> Result<ReplayWords, WordsFault>
     ensures ok { IfOk result (λ values. Means (map (λ word. word.now) words.entry.now) values) }
     ensures err { IfErr result (λ fault. Refuses (map (λ word. word.now) words.entry.now) fault) }
@@ -42,7 +46,7 @@ pub fn read_replay_words<'a>(alloc: Global, words: &'a [&'a str]) -> Result<Repl
 fn replay_command<'a>(alloc: Global) -> Result<Command<'a>, AllocError>
     ensures { IfOk result (λ command. app_of command ≡ replay_app) }
 {
-    Command::new(alloc, "h2replay")
+    command(alloc, "h2replay", ABOUT, USAGE)
         .arg(option(alloc, Word::Config, "FILE", CONFIG))?
         .arg(value(alloc, Word::Script, "SCRIPT", SCRIPT))
 }
@@ -53,12 +57,8 @@ fn replay_values(alloc: Global, matches: &ArgMatches<'_>) -> Result<ReplayWords,
     ensures err { IfErr result (λ fault. LacksValues (found_of matches.now) fault) }
 {
     let script = text_of(matches, Word::Script)?;
-    let config = match matches.get_str("config") {
-        Some(text) => Some(String::from_str(alloc, text)?),
-        None => None,
-    };
     Ok(ReplayWords {
-        config,
+        config: owned(alloc, matches.get_str("config"))?,
         script: String::from_str(alloc, script)?,
     })
 }

@@ -1,13 +1,17 @@
 //! The values that a parse found.
 
 ghost use Rattle.std.specs.Prelude.{false, ◌≡◌, ◌≢◌, ◌⊎◌, ◌↔◌, IfOk, IfErr, IsTrue, Some, None, codes};
-ghost use Rattle.clap.specs.Words.{found_of, first_value, kind_of, rule_of};
-ghost use Rattle.command_line.specs.Values.{name_of, option_rule, flag_rule, value_rule, IsCount, IsNoText, IsNoCount, IsCountWithin, IsNoCountWithin};
+ghost use Rattle.std.specs.Prelude.{option_map, option_copied, string_bytes};
+ghost use Rattle.clap.specs.Words.{app_of, found_of, first_value, kind_of, rule_of};
+ghost use Rattle.command_line.specs.Values.{name_of, program_app, option_rule, flag_rule, value_rule, IsCount, IsNoText, IsNoCount, IsCountWithin, IsNoCountWithin};
 
 use crate::words::{Word, WordsFault};
 use clap::error::ErrorKind;
-use clap::{Arg, ArgAction, ArgMatches};
-use std::alloc::Global;
+use clap::{Arg, ArgAction, ArgMatches, Command};
+use std::alloc::{AllocError, Global};
+
+/// What `--version` says behind the name of a program.
+const VERSION: &str = "0.9.0";
 
 /// Which numbers a value may be, and which it is where it is left out.
 #[derive(Clone, Copy)]
@@ -34,9 +38,27 @@ impl Word {
             Word::Clients => "clients",
             Word::Idle => "idle",
             Word::KeepIdle => "keep-idle",
+            Word::Connect => "connect",
+            Word::Answer => "answer",
             Word::Log => "log",
+            Word::Check => "check",
         }
     }
+}
+
+/// A program that has no words yet but `--help` and `--version`.
+pub fn command<'a>(
+    alloc: Global,
+    name: &'static str,
+    about: &'static str,
+    usage: &'static str,
+) -> Command<'a>
+    ensures { app_of result ≡ program_app name.now }
+{
+    Command::new(alloc, name)
+        .about(about)
+        .version(VERSION)
+        .override_usage(usage)
 }
 
 /// `--name VALUE`, which may be left out.
@@ -84,8 +106,18 @@ pub fn text_of<'a>(matches: &ArgMatches<'a>, word: Word) -> Result<&'a str, Word
     }
 }
 
+/// The same text, owned, if there is one.
+pub fn owned(alloc: Global, text: Option<&str>) -> Result<Option<String>, AllocError>
+    ensures { IfOk result (λ copy. option_map string_bytes copy ≡ option_copied text.entry) }
+{
+    match text {
+        Some(text) => Ok(Some(String::from_str(alloc, text)?)),
+        None => Ok(None),
+    }
+}
+
 /// The number of a value.
-pub fn count_of(matches: &ArgMatches<'_>, word: Word) -> Result<u32, WordsFault>
+fn count_of(matches: &ArgMatches<'_>, word: Word) -> Result<u32, WordsFault>
     ensures ok { IfOk result (λ count. IsCount (first_value (found_of matches.now) (name_of word)) count) }
     ensures err { IfErr result (λ fault. IsNoCount (first_value (found_of matches.now) (name_of word)) word fault) }
 {

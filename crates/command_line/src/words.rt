@@ -21,17 +21,25 @@ pub enum Word {
     Idle,
     /// `--keep-idle SECONDS`: for how many seconds a connection to a server may be idle.
     KeepIdle,
+    /// `--connect SECONDS`: for how many seconds a connection to a server may take to come about.
+    Connect,
+    /// `--answer SECONDS`: for how many seconds a server may send nothing of a response.
+    Answer,
     /// `--log`: whether exchanges with servers and connections are told of.
     Log,
+    /// `--check`: whether the configuration is only checked.
+    Check,
 }
 
 /// Why a command line is refused.
 #[derive(Debug, Drop)]
 pub enum WordsFault {
-    /// It isn't one of the program's, or it asks for help: the text says so.
+    /// It isn't one of the program's, or it asks for help or for the version: the text says so.
     Clap(clap::Error),
     /// This value is missing.
     Missing(Word),
+    /// Both `--config` and `--listen` are missing.
+    MissingBoth,
     /// This value is no number from 0 to 4,294,967,295, or, for `--clients`, from 1 to 1,024.
     NotANumber(Word),
     /// An argument isn't UTF-8.

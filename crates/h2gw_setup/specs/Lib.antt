@@ -1,3 +1,5 @@
 pub mod Stops
 pub mod Addresses
 pub mod Refusals
+pub mod Figures
+pub mod Checks

@@ -1,5 +1,7 @@
 -- Why nothing is set up.
-use Rattle.std.specs.Prelude.{◌≡◌, ℕ, List, Any, string_bytes, ⊤}
+use Rattle.std.specs.Prelude.{◌≡◌, ◌⊎◌, ℕ, List, Any, Option, Some, None, string_bytes, ⊤}
+use Rattle.std.specs.declared.net.socket_addr.SocketAddr.{SocketAddr}
+use Rattle.std.specs.Net.Grammar.{IsSocketText}
 use Rattle.toml.specs.Parse.{parse_document}
 use Rattle.gateway.specs.declared.config.Route.{Route}
 use Rattle.configuration.specs.declared.faults.Key.TheVariants.{Upstream}
@@ -8,11 +10,11 @@ use Rattle.configuration.specs.Configs.{ConfiguresNothing}
 use Rattle.command_line.specs.declared.words.Word.{Word}
 use Rattle.command_line.specs.declared.words.Word.TheVariants as value
 use Rattle.command_line.specs.declared.words.WordsFault.{WordsFault}
-use Rattle.command_line.specs.Gateways.{IsNeeded, Refuses}
-use Rattle.h2gw_setup.specs.Addresses.{IsAddress, IsNoAddress}
+use Rattle.command_line.specs.Gateways.{Refuses}
+use Rattle.h2gw_setup.specs.Addresses.{IsNoAddress}
 use Rattle.h2gw_setup.specs.Stops.{stop_of}
 use Rattle.h2gw_setup.specs.declared.stops.Stop.{Stop}
-use Rattle.h2gw_setup.specs.declared.stops.Stop.TheVariants.{Words, Missing, NotANumber, NotUtf8, BadAddress, NoConfig, Config, Memory}
+use Rattle.h2gw_setup.specs.declared.stops.Stop.TheVariants.{Words, Missing, MissingBoth, NotANumber, NotUtf8, BadAddress, NoConfig, Config, Memory}
 
 -- The upstream of some route is no address.
 abbrev pub HasBadUpstream : List Route → Type 0
@@ -30,13 +32,31 @@ LacksConfig text (Config fault) = ConfiguresNothing (parse_document text) fault
 LacksConfig text Memory = ⊤
 LacksConfig text stop = ⊥
 
--- Why words set nothing up. The text of the address to listen at is judged first, so that it is none, or all else comes where it is one. Which
--- texts files have isn't told.
-abbrev pub LacksSetting : List ℕ → Stop → Type 0
-LacksSetting listen BadAddress = IsNoAddress listen
-LacksSetting listen NoConfig = IsAddress listen
-LacksSetting listen (Config fault) = IsAddress listen
-LacksSetting listen Memory = IsAddress listen
+-- What the text of the address to listen at comes to, where there is one: this address, or none.
+abbrev pub IsPlace : Option (List ℕ) → Option SocketAddr → Type 0
+IsPlace None None = ⊤
+IsPlace (Some text) (Some address) = IsSocketText text address
+IsPlace text address = ⊥
+
+-- The text is there, and that of no address.
+abbrev pub IsNoPlace : Option (List ℕ) → Type 0
+IsNoPlace None = ⊥
+IsNoPlace (Some text) = IsNoAddress text
+
+-- Why there is no text of a configuration, unless memory ran out.
+abbrev pub IsTextStop : Stop → Type 0
+IsTextStop (NoConfig reason) = ⊤
+IsTextStop Memory = ⊤
+IsTextStop stop = ⊥
+
+-- Why words set nothing up. The text of the address to listen at is judged first, so that it isn't there, or is none, or all else comes where it is one.
+-- Which texts files have isn't told.
+abbrev pub LacksSetting : Option (List ℕ) → Stop → Type 0
+LacksSetting listen (Missing word) = (word ≡ value.Listen) × (listen ≡ None)
+LacksSetting listen BadAddress = IsNoPlace listen
+LacksSetting listen (NoConfig reason) = (address : SocketAddr) × IsPlace listen (Some address)
+LacksSetting listen (Config fault) = (address : SocketAddr) × IsPlace listen (Some address)
+LacksSetting listen Memory = (address : SocketAddr) × IsPlace listen (Some address)
 LacksSetting listen stop = ⊥
 
 -- Why arguments are no command line of the gateway, unless memory ran out.
@@ -50,20 +70,16 @@ IsCountValue value.Turns = ⊤
 IsCountValue value.Clients = ⊤
 IsCountValue value.Idle = ⊤
 IsCountValue value.KeepIdle = ⊤
+IsCountValue value.Connect = ⊤
+IsCountValue value.Answer = ⊤
 IsCountValue word = ⊥
 
 -- Why the command line isn't taken. Which arguments the program has isn't told.
 abbrev pub IsWordsStop : Stop → Type 0
 IsWordsStop (Words error) = ⊤
-IsWordsStop (Missing word) = IsNeeded word
+IsWordsStop (Missing word) = (word ≡ value.Config) ⊎ (word ≡ value.Listen)
+IsWordsStop MissingBoth = ⊤
 IsWordsStop (NotANumber word) = IsCountValue word
 IsWordsStop NotUtf8 = ⊤
 IsWordsStop Memory = ⊤
 IsWordsStop stop = ⊥
-
--- Why the program isn't set up: for its command line, or for what that names.
-abbrev pub IsSettingStop : Stop → Type 0
-IsSettingStop BadAddress = ⊤
-IsSettingStop NoConfig = ⊤
-IsSettingStop (Config fault) = ⊤
-IsSettingStop stop = IsWordsStop stop

@@ -1,17 +1,16 @@
 //! What the program is set up with.
 
-ghost use Rattle.std.specs.Prelude.{◌≡◌, ◌≢◌, map, IfOk, IfErr, string_bytes};
-ghost use Rattle.std.specs.Net.Grammar.{IsSocketText};
+ghost use Rattle.std.specs.Prelude.{◌≡◌, ◌≢◌, ◌≤◌, map, option_map, Some, IfOk, IfErr, string_bytes};
 ghost use Rattle.toml.specs.Parse.{parse_document};
 ghost use Rattle.gateway.specs.Setups.{setup_of, IsServable};
 ghost use Rattle.configuration.specs.Configs.{Configures};
 ghost use Rattle.command_line.specs.Gateways.{Means};
 ghost use Rattle.h2gw_setup.specs.Addresses.{AreAddresses};
-ghost use Rattle.h2gw_setup.specs.Refusals.{LacksAddresses, LacksConfig, LacksSetting, LacksWords, IsWordsStop, IsSettingStop};
+ghost use Rattle.h2gw_setup.specs.Refusals.{LacksAddresses, LacksConfig, LacksSetting, LacksWords, IsPlace, IsNoPlace, IsTextStop, IsWordsStop};
 ghost use Rattle.h2gw_setup.specs.Stops.{status_of};
 
 use crate::stops::Stop;
-use command_line::{GatewayWords, read_arguments, read_gateway_words};
+use command_line::{GatewayWords, Word, read_arguments, read_gateway_words};
 use configuration::{ConfigFault, Key, read_config};
 use gateway::{Config, Route};
 use std::alloc::Global;
@@ -40,41 +39,56 @@ pub struct Setting {
     pub idle: u32,
     /// For how many seconds a connection to a server may be idle; 0 is for ever.
     pub keep_idle: u32,
+    /// For how many seconds a connection to a server may take to come about; 0 is for ever.
+    pub connect: u32,
+    /// For how many seconds a server may send nothing of a response; 0 is for ever.
+    pub answer: u32,
     /// Exchanges with servers and connections are told of on standard error.
     pub is_logged: bool,
 }
 
-/// Reads the command line, and then the configuration that it names. The address is judged before the configuration.
-pub fn read_setting<R: Env + Files + AllocGlobal>(rt: &R) -> Result<Setting, Stop>
-    ensures servable { IfOk result (λ setting. IsServable (setup_of setting.config)) }
-    ensures addresses { IfOk result (λ setting. AreAddresses setting.config.routes.items setting.addresses.items) }
-    ensures stops { IfErr result (λ stop. IsSettingStop stop) }
-    ensures status { IfErr result (λ stop. status_of stop ≢ 2) }
-{
-    let words = read_command_line(rt)?;
-    read_setting_of(rt, &words)
-}
-
 /// Reads the configuration that the words name: all else is as they say. The address is judged
 /// before the configuration is read.
-fn read_setting_of<R: Files + AllocGlobal>(rt: &R, words: &GatewayWords) -> Result<Setting, Stop>
+pub fn read_setting<R: Files + AllocGlobal>(rt: &R, words: &GatewayWords) -> Result<Setting, Stop>
     ensures servable { IfOk result (λ setting. IsServable (setup_of setting.config)) }
     ensures addresses { IfOk result (λ setting. AreAddresses setting.config.routes.items setting.addresses.items) }
-    ensures listen { IfOk result (λ setting. IsSocketText (string_bytes words.now.listen) setting.listen) }
+    ensures listen { IfOk result (λ setting. IsPlace (option_map string_bytes words.now.listen) (Some setting.listen)) }
     ensures counts { IfOk result (λ setting. (setting.connections ≡ words.now.connections) × (setting.turns ≡ words.now.turns)
         × (setting.clients ≡ words.now.clients) × (setting.idle ≡ words.now.idle) × (setting.keep_idle ≡ words.now.keep_idle)
-        × (setting.is_logged ≡ words.now.is_logged)) }
-    ensures stops { IfErr result (λ stop. LacksSetting (string_bytes words.now.listen) stop) }
+        × (setting.connect ≡ words.now.connect) × (setting.answer ≡ words.now.answer) × (setting.is_logged ≡ words.now.is_logged)) }
+    ensures stops { IfErr result (λ stop. LacksSetting (option_map string_bytes words.now.listen) stop) }
+    ensures status { IfErr result (λ stop. status_of stop ≢ 2) }
 {
-    let Ok(listen) = words.listen.parse::<SocketAddr>() else {
-        return Err(Stop::BadAddress);
+    let Some(listen) = address_of(words)? else {
+        return Err(Stop::Missing(Word::Listen));
     };
-    let text = match fs::read_to_string(rt, &words.config) {
-        Ok(text) => text,
-        Err(error) if error.kind() == ErrorKind::OutOfMemory => return Err(Stop::Memory),
-        Err(_) => return Err(Stop::NoConfig),
-    };
+    let text = read_text(rt, &words.config)?;
     setting_of(rt.alloc(), words, listen, &text)
+}
+
+/// The address to listen at, if there is one.
+pub fn address_of(words: &GatewayWords) -> Result<Option<SocketAddr>, Stop>
+    ensures ok { IfOk result (λ address. IsPlace (option_map string_bytes words.now.listen) address) }
+    ensures err { IfErr result (λ stop. (stop ≡ Stop.BadAddress) × IsNoPlace (option_map string_bytes words.now.listen)) }
+{
+    let Some(text) = &words.listen else {
+        return Ok(None);
+    };
+    match text.parse::<SocketAddr>() {
+        Ok(address) => Ok(Some(address)),
+        Err(_) => Err(Stop::BadAddress),
+    }
+}
+
+/// The text of the configuration that stands there.
+pub fn read_text<R: Files + AllocGlobal>(rt: &R, path: &str) -> Result<String, Stop>
+    ensures { IfErr result (λ stop. IsTextStop stop) }
+{
+    match fs::read_to_string(rt, path) {
+        Ok(text) => Ok(text),
+        Err(error) if error.kind() == ErrorKind::OutOfMemory => Err(Stop::Memory),
+        Err(error) => Err(Stop::NoConfig(error)),
+    }
 }
 
 /// What the program is set up with, where it listens at this address and its configuration has this
@@ -91,7 +105,7 @@ fn setting_of(
     ensures listens { IfOk result (λ setting. setting.listen ≡ listen) }
     ensures counts { IfOk result (λ setting. (setting.connections ≡ words.now.connections) × (setting.turns ≡ words.now.turns)
         × (setting.clients ≡ words.now.clients) × (setting.idle ≡ words.now.idle) × (setting.keep_idle ≡ words.now.keep_idle)
-        × (setting.is_logged ≡ words.now.is_logged)) }
+        × (setting.connect ≡ words.now.connect) × (setting.answer ≡ words.now.answer) × (setting.is_logged ≡ words.now.is_logged)) }
     ensures stops { IfErr result (λ stop. LacksConfig text.now stop) }
 {
     let config = match read_config(alloc, text) {
@@ -108,13 +122,17 @@ fn setting_of(
         clients: words.clients,
         idle: words.idle,
         keep_idle: words.keep_idle,
+        connect: words.connect,
+        answer: words.answer,
         is_logged: words.is_logged,
     })
 }
 
 /// Reads the command line.
-fn read_command_line<R: Env + AllocGlobal>(rt: &R) -> Result<GatewayWords, Stop>
-    ensures { IfErr result (λ stop. IsWordsStop stop) }
+pub fn read_command_line<R: Env + AllocGlobal>(rt: &R) -> Result<GatewayWords, Stop>
+    ensures few { IfOk result (λ words. words.clients ≤ 1024) }
+    ensures stops { IfErr result (λ stop. IsWordsStop stop) }
+    ensures status { IfErr result (λ stop. status_of stop ≢ 2) }
 {
     let arguments = read_arguments(rt)?;
     words_of(rt.alloc(), &arguments)

@@ -11,6 +11,7 @@ refused : (arguments : List (List ℕ)) (fault : WordsFault) → Refuses argumen
 unfolding Refuses
 refused arguments (words.Clap error) refuses = tt
 refused arguments (words.Missing word) refuses = refuses.1.0
+refused arguments words.MissingBoth refuses = absurd refuses
 refused arguments (words.NotANumber word) refuses = absurd refuses
 refused arguments words.NotUtf8 refuses = tt
 refused arguments words.Memory refuses = tt
@@ -18,7 +19,7 @@ refused arguments words.Memory refuses = tt
 -- The arguments are no command line.
 pub words_stop : (arguments : List (List ℕ)) (stop : Stop) → LacksWords arguments stop → IsWordsStop stop
 words_stop arguments (Words fault) lacks = refused arguments fault lacks
-words_stop arguments NoConfig lacks = absurd lacks
+words_stop arguments (NoConfig reason) lacks = absurd lacks
 words_stop arguments (Config fault) lacks = absurd lacks
-words_stop arguments NoScript lacks = absurd lacks
+words_stop arguments (NoScript reason) lacks = absurd lacks
 words_stop arguments Memory lacks = tt

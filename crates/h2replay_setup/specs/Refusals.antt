@@ -4,7 +4,7 @@ use Rattle.toml.specs.Parse.{parse_document}
 use Rattle.configuration.specs.Configs.{ConfiguresNothing}
 use Rattle.command_line.specs.declared.words.Word.TheVariants as value
 use Rattle.command_line.specs.declared.words.WordsFault.{WordsFault}
-use Rattle.command_line.specs.declared.words.WordsFault.TheVariants.{Missing, NotANumber}
+use Rattle.command_line.specs.declared.words.WordsFault.TheVariants.{Missing, MissingBoth, NotANumber}
 use Rattle.command_line.specs.Replays.{Refuses}
 use Rattle.h2replay_setup.specs.declared.stops.Stop.{Stop}
 use Rattle.h2replay_setup.specs.declared.stops.Stop.TheVariants.{Words, NoConfig, Config, NoScript, Memory}
@@ -22,16 +22,16 @@ LacksConfig text stop = ⊥
 
 -- Why the configuration isn't taken. Which text its file has isn't told.
 abbrev pub IsConfigStop : Stop → Type 0
-IsConfigStop NoConfig = ⊤
+IsConfigStop (NoConfig reason) = ⊤
 IsConfigStop (Config fault) = ⊤
 IsConfigStop Memory = ⊤
 IsConfigStop stop = ⊥
 
 -- Why the files aren't taken. A configuration stops nothing where none is named. Which texts files have isn't told.
 abbrev pub LacksFiles : Bool → Stop → Type 0
-LacksFiles is_named NoConfig = is_named ≡ true
+LacksFiles is_named (NoConfig reason) = is_named ≡ true
 LacksFiles is_named (Config fault) = is_named ≡ true
-LacksFiles is_named NoScript = ⊤
+LacksFiles is_named (NoScript reason) = ⊤
 LacksFiles is_named Memory = ⊤
 LacksFiles is_named stop = ⊥
 
@@ -39,6 +39,7 @@ LacksFiles is_named stop = ⊥
 -- has isn't told.
 abbrev pub IsReplayFault : WordsFault → Type 0
 IsReplayFault (Missing word) = word ≡ value.Script
+IsReplayFault MissingBoth = ⊥
 IsReplayFault (NotANumber word) = ⊥
 IsReplayFault fault = ⊤
 

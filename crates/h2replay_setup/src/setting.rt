@@ -45,7 +45,7 @@ fn read_files(rt: &HostRuntime, words: &ReplayWords) -> Result<Setting, Stop>
     let script = match fs::read_to_string(rt, &words.script) {
         Ok(script) => script,
         Err(error) if error.kind() == ErrorKind::OutOfMemory => return Err(Stop::Memory),
-        Err(_) => return Err(Stop::NoScript),
+        Err(error) => return Err(Stop::NoScript(error)),
     };
     Ok(Setting { config, script })
 }
@@ -83,7 +83,7 @@ fn read_config_text(rt: &HostRuntime, path: &str) -> Result<String, Stop>
     let text = match fs::read_to_string(rt, path) {
         Ok(text) => text,
         Err(error) if error.kind() == ErrorKind::OutOfMemory => return Err(Stop::Memory),
-        Err(_) => return Err(Stop::NoConfig),
+        Err(error) => return Err(Stop::NoConfig(error)),
     };
     judge_config(rt.alloc(), &text)?;
     Ok(text)

@@ -11,14 +11,14 @@ use std::io;
 /// Why the program stops before a script is replayed.
 #[derive(Debug, Drop)]
 pub enum Stop {
-    /// The command line is refused, or asks for help.
+    /// The command line is refused, or asks for help or for the version.
     Words(WordsFault),
-    /// The configuration can't be read, or isn't UTF-8.
-    NoConfig,
+    /// The configuration can't be read, or isn't UTF-8, as the system says.
+    NoConfig(io::Error),
     /// The configuration isn't taken.
     Config(ConfigFault),
-    /// The script can't be read, or isn't UTF-8.
-    NoScript,
+    /// The script can't be read, or isn't UTF-8, as the system says.
+    NoScript(io::Error),
     /// No memory was left.
     Memory,
 }
@@ -30,11 +30,11 @@ impl Stop {
     {
         match self {
             Stop::Words(WordsFault::Clap(error)) => match error.kind() {
-                ErrorKind::DisplayHelp => 0,
+                ErrorKind::DisplayHelp | ErrorKind::DisplayVersion => 0,
                 _ => 1,
             },
             Stop::Words(WordsFault::Memory) | Stop::Config(ConfigFault::Memory) | Stop::Memory => 2,
-            Stop::Words(_) | Stop::NoConfig | Stop::Config(_) | Stop::NoScript => 1,
+            Stop::Words(_) | Stop::NoConfig(_) | Stop::Config(_) | Stop::NoScript(_) => 1,
         }
     }
 }
@@ -50,22 +50,24 @@ impl From<WordsFault> for Stop {
     }
 }
 
-/// Says why the program stops, in one line on standard error; help goes to standard output. Of want
-/// of memory nothing is said. The answer is the exit status, or 2 where that can't be said.
+/// Says why the program stops, in one line on standard error, and in a second the system's reason,
+/// if it gave one; help and the version go to standard output. Of want of memory nothing is said.
+/// The answer is the exit status, or 2 where that can't be said.
 pub fn report(rt: &HostRuntime, stop: &Stop) -> u8
     ensures { (result ≡ status_of stop.now) ⊎ (result ≡ 2) }
 {
     let printed = match stop {
         Stop::Words(WordsFault::Clap(error)) => error.print(rt),
         Stop::Words(WordsFault::Missing(word)) => eprintln!(rt; "{}: missing", word.name()),
+        Stop::Words(WordsFault::MissingBoth) => rt.eprintln("config: missing\nlisten: missing"),
         Stop::Words(WordsFault::NotANumber(word)) => {
             eprintln!(rt; "{}: not a number", word.name())
         }
         Stop::Words(WordsFault::NotUtf8) => rt.eprintln("arguments: not UTF-8"),
-        Stop::NoConfig => rt.eprintln("config: cannot read"),
+        Stop::NoConfig(error) => eprintln!(rt; "config: cannot read\n{error}"),
         Stop::Config(ConfigFault::Memory) => Ok(()),
         Stop::Config(fault) => rt.eprintln(fault.line()),
-        Stop::NoScript => rt.eprintln("script: cannot read"),
+        Stop::NoScript(error) => eprintln!(rt; "script: cannot read\n{error}"),
         Stop::Words(WordsFault::Memory) | Stop::Memory => Ok(()),
     };
     status_said(stop, printed)

@@ -46,6 +46,8 @@ fn setting_of(
         clients: 3,
         idle: 30,
         keep_idle: 0,
+        connect: 0,
+        answer: 0,
         is_logged: false,
     })
 }

@@ -2,7 +2,7 @@
 
 use command_line::Word;
 use configuration::{ConfigFault, Key};
-use h2gw_setup::setting::{Setting, read_setting};
+use h2gw_setup::setting::{Setting, read_command_line, read_setting};
 use h2gw_setup::stops::{Stop, report};
 use std::alloc::{Allocator, Global};
 use std::cell::RefCell;
@@ -164,7 +164,9 @@ fn setting_by(alloc: Global, config: &'static [u8]) -> Result<Setting, Stop> {
         b"--connections=3",
         b"--turns=7",
     ];
-    read_setting(&(Started { arguments }, alloc))
+    let rt = (Started { arguments }, alloc);
+    let words = read_command_line(&rt)?;
+    read_setting(&rt, &words)
 }
 
 /// Whether these are what a program is set up with, beside the words that it is always given.
@@ -190,7 +192,7 @@ fn the_configuration_that_is_named_is_read(rt: HostRuntime) {
     assert!(rt;
         matches!(
             setting_by(rt.alloc(), b"--config=c.toml"),
-            Err(Stop::NoConfig)
+            Err(Stop::NoConfig(_))
         )
     );
 }
@@ -259,13 +261,22 @@ fn it_is_said_why_the_program_stops(rt: HostRuntime) {
         (Stop::NotANumber(Word::Turns), "turns: not a number\n", 1),
         (Stop::NotUtf8, "arguments: not UTF-8\n", 1),
         (Stop::BadAddress, "listen: bad address\n", 1),
-        (Stop::NoConfig, "config: cannot read\n", 1),
+        (Stop::MissingBoth, "config: missing\nlisten: missing\n", 1),
+        (
+            Stop::NoConfig(io::Error::from_raw_os_error(2)),
+            "config: cannot read\nNo such file or directory (os error 2)\n",
+            1,
+        ),
         (
             Stop::Config(ConfigFault::Bad(Key::Prefix)),
             "config: bad prefix\n",
             1,
         ),
-        (Stop::Bind, "listen: cannot bind\n", 2),
+        (
+            Stop::Bind(io::Error::from_raw_os_error(98)),
+            "listen: cannot bind\nAddress already in use (os error 98)\n",
+            2,
+        ),
         (Stop::Accept, "listen: cannot accept\n", 2),
         (Stop::Print, "", 2),
         (Stop::Memory, "no memory\n", 3),

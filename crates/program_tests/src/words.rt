@@ -78,12 +78,18 @@ fn the_gateway_reads_its_words(rt: HostRuntime) -> Result<(), Fail> {
     match read_gateway_words(rt.alloc(), words.as_slice()) {
         Ok(values) => {
             assert_eq!(rt; values.config.as_str(), "a.toml");
-            assert_eq!(rt; values.listen.as_str(), "127.0.0.1:80");
+            assert_eq!(rt; values.listen.as_deref(), Some("127.0.0.1:80"));
             assert_eq!(rt; (values.connections, values.turns), (0, 4294967295));
             assert_eq!(rt;
-                (values.clients, values.idle, values.keep_idle, values.is_logged),
+                (
+                    values.clients,
+                    values.idle,
+                    values.keep_idle,
+                    values.is_logged
+                ),
                 (1, 0, 0, false)
             );
+            assert_eq!(rt; (values.connect, values.answer), (0, 0));
         }
         Err(fault) => panic!(rt; "{fault:?}"),
     }
@@ -92,15 +98,49 @@ fn the_gateway_reads_its_words(rt: HostRuntime) -> Result<(), Fail> {
 
 /// What the gateway reads of this word behind those that it needs.
 fn read_with(alloc: Global, word: &'static str) -> Result<GatewayWords, WordsFault> {
-    let words = [
-        "h2gw",
-        "--config=a",
-        "--listen=b",
-        "--connections=1",
-        "--turns=2",
-        word,
-    ];
+    let words = ["h2gw", "--config=a", "--listen=b", word];
     read_gateway_words(alloc, words.as_slice())
+}
+
+#[test]
+fn the_gateway_serves_without_end(rt: HostRuntime) -> Result<(), Fail> {
+    match read_with(rt.alloc(), "--turns=3") {
+        Ok(values) => {
+            assert_eq!(rt; (values.connections, values.turns), (4294967295, 3));
+        }
+        Err(fault) => panic!(rt; "{fault:?}"),
+    }
+    match read_with(rt.alloc(), "--connections=0") {
+        Ok(values) => {
+            assert_eq!(rt; (values.connections, values.turns), (0, 4294967295));
+        }
+        Err(fault) => panic!(rt; "{fault:?}"),
+    }
+    Ok(())
+}
+
+#[test]
+fn the_gateway_only_checks(rt: HostRuntime) -> Result<(), Fail> {
+    match read_gateway_words(rt.alloc(), &["h2gw", "--config=a", "--check"]) {
+        Ok(values) => {
+            assert_eq!(rt; (values.listen.is_none(), values.is_checked), (true, true));
+        }
+        Err(fault) => panic!(rt; "{fault:?}"),
+    }
+    match read_with(rt.alloc(), "--check") {
+        Ok(values) => {
+            assert_eq!(rt;
+                (values.listen.as_deref(), values.is_checked),
+                (Some("b"), true)
+            );
+        }
+        Err(fault) => panic!(rt; "{fault:?}"),
+    }
+    match read_with(rt.alloc(), "--log") {
+        Ok(values) => assert!(rt; !values.is_checked),
+        Err(fault) => panic!(rt; "{fault:?}"),
+    }
+    Ok(())
 }
 
 #[test]
@@ -116,6 +156,8 @@ fn the_gateway_reads_how_many_clients_there_are(rt: HostRuntime) -> Result<(), F
         "--idle=30",
         "--keep-idle",
         "60",
+        "--answer=90",
+        "--connect=3",
         "--turns=2",
     ];
     match read_gateway_words(rt.alloc(), words.as_slice()) {
@@ -129,6 +171,7 @@ fn the_gateway_reads_how_many_clients_there_are(rt: HostRuntime) -> Result<(), F
                 ),
                 (1024, 30, 60, true)
             );
+            assert_eq!(rt; (values.connect, values.answer), (3, 90));
         }
         Err(fault) => panic!(rt; "{fault:?}"),
     }
@@ -146,24 +189,19 @@ fn the_gateway_reads_how_many_clients_there_are(rt: HostRuntime) -> Result<(), F
         Err(WordsFault::NotANumber(Word::KeepIdle)) => {}
         _ => panic!(rt; "no number, and taken"),
     }
+    match read_with(rt.alloc(), "--connect=4294967296") {
+        Err(WordsFault::NotANumber(Word::Connect)) => {}
+        _ => panic!(rt; "no number, and taken"),
+    }
+    match read_with(rt.alloc(), "--answer=") {
+        Err(WordsFault::NotANumber(Word::Answer)) => {}
+        _ => panic!(rt; "no number, and taken"),
+    }
     Ok(())
 }
 
 #[test]
 fn the_gateway_refuses_other_words(rt: HostRuntime) -> Result<(), Fail> {
-    let missing = [
-        "h2gw",
-        "--config",
-        "a",
-        "--turns",
-        "1",
-        "--connections",
-        "1",
-    ];
-    match read_gateway_words(rt.alloc(), missing.as_slice()) {
-        Err(WordsFault::Missing(Word::Listen)) => {}
-        _ => panic!(rt; "no address, and taken"),
-    }
     let large = [
         "h2gw",
         "--config=a",
@@ -175,11 +213,32 @@ fn the_gateway_refuses_other_words(rt: HostRuntime) -> Result<(), Fail> {
         Err(WordsFault::NotANumber(Word::Connections)) => {}
         _ => panic!(rt; "no number, and taken"),
     }
-    for word in ["--help", "--colour", "script"] {
+    for word in ["--help", "--version", "--colour", "script"] {
         match read_gateway_words(rt.alloc(), &["h2gw", word]) {
             Err(WordsFault::Clap(_)) => {}
             _ => panic!(rt; "{word} was taken"),
         }
+    }
+    Ok(())
+}
+
+#[test]
+fn all_that_is_missing_is_told(rt: HostRuntime) -> Result<(), Fail> {
+    match read_gateway_words(rt.alloc(), &["h2gw", "--config=a", "--turns=x"]) {
+        Err(WordsFault::Missing(Word::Listen)) => {}
+        _ => panic!(rt; "no address, and taken"),
+    }
+    match read_gateway_words(rt.alloc(), &["h2gw", "--listen=b"]) {
+        Err(WordsFault::Missing(Word::Config)) => {}
+        _ => panic!(rt; "no configuration, and taken"),
+    }
+    match read_gateway_words(rt.alloc(), &["h2gw", "--check"]) {
+        Err(WordsFault::Missing(Word::Config)) => {}
+        _ => panic!(rt; "nothing to check, and taken"),
+    }
+    match read_gateway_words(rt.alloc(), &["h2gw", "--log"]) {
+        Err(WordsFault::MissingBoth) => {}
+        _ => panic!(rt; "neither, and taken"),
     }
     Ok(())
 }

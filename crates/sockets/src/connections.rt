@@ -16,7 +16,9 @@ ghost use Rattle.std.specs.List.{Contains};
 use crate::buffer::Buffer;
 use crate::departure::leave_on;
 use crate::leaving::Leaving;
-use crate::queues::{CLIENT, heed, heed_all, join_ready, list, note_idle_all, place_of, take_next};
+use crate::queues::{
+    CLIENT, give_up, heed, heed_all, join_ready, list, note_idle_all, place_of, take_next,
+};
 use crate::reporting::{Reporting, number_in};
 use crate::rooms::room_of;
 use crate::side::Side;
@@ -576,6 +578,22 @@ impl<'a, N: Net + Clock, S: Wire> Sockets<'a, N, S> {
         ensures stays { self.new ≡ record self.old { upstreams = self.new.upstreams } }
     {
         note_idle_all(idle, now, most, &mut self.upstreams);
+    }
+
+    /// An upstream is waited for no longer: it counts as failed, if it is open, unless something may
+    /// be read of it. The answer is whether it does by now.
+    pub(crate) fn give_up(&mut self, number: u32) -> Result<bool, WorldFault>
+        ensures addresses { self.new.addresses ≡ self.old.addresses }
+        ensures number { number_of_client self.new.reporting ≡ number_of_client self.old.reporting }
+        ensures moves { MovesOn S.left S.held (Ok None) self.old.client self.old.upstreams.items self.new.client self.new.upstreams.items }
+        ensures queued { OnOk result (HasQueued self.old → HasQueued self.new) }
+    {
+        give_up(
+            number,
+            &mut self.upstreams,
+            &mut self.ready,
+            &mut self.writes,
+        )
     }
 
     /// Notes what was reported of the client's socket, and writes what waits for it, if it takes

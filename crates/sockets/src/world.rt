@@ -1,6 +1,6 @@
 //! The world of sockets.
 
-ghost use Rattle.std.specs.Prelude.{◌≡◌, ◌+◌, ◌<◌, ◌^◌, None, Some, Ok, Err, [], ◌∷◌, ◌++◌, false, true, not, List, IfOk, OnOk, OnErr, ◌&&◌, ◌||◌, is_ok, if◌then◌else◌};
+ghost use Rattle.std.specs.Prelude.{◌≡◌, ◌+◌, ◌<◌, ◌^◌, None, Some, Ok, Err, [], ◌∷◌, ◌++◌, false, true, not, List, Result, ⊤, IfOk, OnOk, OnErr, ◌&&◌, ◌||◌, is_ok, if◌then◌else◌};
 ghost use Rattle.model.specs.Logs.{Step};
 ghost use Rattle.effects.specs.Views.{output_of};
 ghost use Rattle.driver.specs.Worlds.{AddsEvent, AddsHanded, KeepsRooms, SaysOver, with_outputs};
@@ -200,6 +200,22 @@ impl<'a, N: Net + Clock, S: Wire> SocketWorld<'a, N, S> {
         ensures moved_by { Steps S.left S.held (Aside (Ok tt)) (seen_in self.old.sockets) (seen_in self.new.sockets) }
     {
         self.sockets.note_idle(idle, now, most);
+    }
+
+    /// A connection is waited for no longer: it counts as failed, if it is open, unless something
+    /// may be read of it, and that is told in its turn. The answer is whether it does by now. An
+    /// `Err` says that memory was refused: then the client is lost.
+    pub fn give_up(&mut self, k: u32) -> Result<bool, WorldFault>
+        ensures calls { self.new.calls ≡ self.old.calls }
+        ensures failures { self.new.failures ≡ self.old.failures }
+        ensures moves { MovesOn S.left S.held (Ok None) self.old.sockets.client self.old.sockets.upstreams.items self.new.sockets.client
+            self.new.sockets.upstreams.items }
+        ensures queued { OnOk result (HasQueued self.old.sockets → HasQueued self.new.sockets) }
+        ensures quiet { self.new.is_quiet ≡ false }
+        ensures moved_by { (answer : Result ⊤ WorldFault) → Steps S.left S.held (Aside answer) (seen_in self.old.sockets) (seen_in self.new.sockets) }
+    {
+        self.is_quiet = false;
+        self.sockets.give_up(k)
     }
 
     /// Ends what the client sends: what came of it before is still read, and then its end, as where

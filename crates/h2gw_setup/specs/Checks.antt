@@ -1,0 +1,27 @@
+-- What is said of a configuration that is checked.
+use Rattle.std.specs.Prelude.{ℕ, zero, suc, List, Option, ⊤}
+use Rattle.std.specs.declared.net.socket_addr.SocketAddr.{SocketAddr}
+use Rattle.toml.specs.Parse.{parse_document}
+use Rattle.gateway.specs.declared.config.Config.{Config}
+use Rattle.configuration.specs.declared.faults.ConfigFault.{ConfigFault}
+use Rattle.configuration.specs.Configs.{Configures, ConfiguresNothing}
+use Rattle.h2gw_setup.specs.Refusals.{IsPlace, IsNoPlace}
+use Rattle.h2gw_setup.specs.declared.stops.Stop.{Stop}
+use Rattle.h2gw_setup.specs.declared.stops.Stop.TheVariants.{BadAddress, NoConfig, Print, Memory}
+
+-- The text of the address to listen at, where there is one, is that of an address.
+abbrev pub HasPlace : Option (List ℕ) → Type 0
+HasPlace listen = (address : Option SocketAddr) × IsPlace listen address
+
+-- The text says a configuration, and the status is 0, or it says none, and the status is another.
+abbrev pub Says : List ℕ → ℕ → Type 0
+Says text zero = (config : Config) × Configures (parse_document text) config
+Says text (suc status) = (fault : ConfigFault) × ConfiguresNothing (parse_document text) fault
+
+-- Why nothing is said of one: the address to listen at is none, or there is no text, or it can't be printed.
+abbrev pub LacksCheck : Option (List ℕ) → Stop → Type 0
+LacksCheck listen BadAddress = IsNoPlace listen
+LacksCheck listen (NoConfig reason) = ⊤
+LacksCheck listen Print = ⊤
+LacksCheck listen Memory = ⊤
+LacksCheck listen stop = ⊥

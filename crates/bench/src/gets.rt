@@ -1,23 +1,38 @@
-//! GETs through the whole gateway: all events of a connection, from the client's octets to its upstreams' and back.
+//! Requests through the whole gateway: all events of a connection, from the client's octets to its
+//! upstreams' and back.
 
 ghost use Rattle.std.specs.Prelude.{IfSome};
 ghost use Rattle.gateway.specs.Setups.{setup_of, IsServable};
 
 use crate::made::Made;
+use crate::posts::post_at;
 use crate::samples::{FIRST_BLOCK, LATER_BLOCKS};
 use gateway::{Config, Event, Output, Passing, Route, run};
 use std::alloc::Global;
 
 /// The preface of a client, and its settings, without entries (RFC 9113, section 3.4).
-const BEGIN: &[u8] = b"PRI * HTTP/2.0\r\n\r\nSM\r\n\r\n\x00\x00\x00\x04\x00\x00\x00\x00\x00";
+pub(crate) const BEGIN: &[u8] =
+    b"PRI * HTTP/2.0\r\n\r\nSM\r\n\r\n\x00\x00\x00\x04\x00\x00\x00\x00\x00";
 
 /// How many octets of a request its upstream's side takes at once.
 const TAKEN: u64 = 100;
 
+/// What is requested.
+#[derive(Clone, Copy)]
+pub enum Method {
+    /// GET, with ten fields.
+    Get,
+    /// POST, with few fields and a body.
+    Post,
+}
+
 /// Of which requests a connection consists: some that nobody answers, and then some that are
-/// answered one after another, each with this response.
+/// answered one after another, each with this response. All have this method. Connections to
+/// upstreams are kept, so that those that are answered go out on one, or aren't.
 #[derive(Clone, Copy)]
 pub struct Load {
+    pub method: Method,
+    pub is_kept: bool,
     pub active: u32,
     pub answered: u32,
     pub response: &'static [u8],
@@ -62,11 +77,25 @@ fn push_request(place: u32, octets: &mut Vec<u8>) -> Option<()> {
     octets.extend_from_slice(block).ok()
 }
 
-/// A connection's request at a place.
+/// A connection's GET at a place.
 pub(crate) fn request_at(alloc: Global, place: u32) -> Option<Event> {
     let mut octets = Vec::new(alloc);
     push_request(place, &mut octets)?;
     Some(Event::Client(octets))
+}
+
+/// A connection's request at a place.
+fn event_at(alloc: Global, method: Method, place: u32) -> Option<Event> {
+    match method {
+        Method::Get => request_at(alloc, place),
+        Method::Post => post_at(alloc, place),
+    }
+}
+
+/// The number of the upstream connection on which the request at a place is answered.
+fn number_for(load: Load, place: u32) -> Option<u32> {
+    let before = if load.is_kept { load.active } else { place };
+    before.checked_add(1)
 }
 
 /// How many octets for the client are put out.
@@ -95,17 +124,17 @@ fn steps_of(alloc: Global, config: &Config, events: &[Event]) -> Option<Vec<Vec<
 }
 
 /// The events of a request that is answered.
-fn push_first(alloc: Global, response: &[u8], events: &mut Vec<Event>) -> Option<()> {
-    events.push(request_at(alloc, 0)?).ok()?;
-    answer(alloc, 1, response, events)
+fn push_first(alloc: Global, load: Load, events: &mut Vec<Event>) -> Option<()> {
+    events.push(event_at(alloc, load.method, 0)?).ok()?;
+    answer(alloc, 1, load.response, events)
 }
 
 /// How many octets for the client an answer takes.
-fn answer_octets(alloc: Global, config: &Config, response: &[u8]) -> Option<u64>
+fn answer_octets(alloc: Global, config: &Config, load: Load) -> Option<u64>
     requires { IsServable (setup_of config.now) }
 {
     let mut events = Vec::new(alloc);
-    push_first(alloc, response, &mut events)?;
+    push_first(alloc, load, &mut events)?;
     let steps = steps_of(alloc, config, &events)?;
     Some(for_client(steps.last()?))
 }
@@ -114,9 +143,9 @@ fn answer_octets(alloc: Global, config: &Config, response: &[u8]) -> Option<u64>
 fn push_events(alloc: Global, load: Load, count: u64, events: &mut Vec<Event>) -> Option<()> {
     let all = load.active.checked_add(load.answered)?;
     for place in 0..all {
-        events.push(request_at(alloc, place)?).ok()?;
+        events.push(event_at(alloc, load.method, place)?).ok()?;
         if place >= load.active {
-            answer(alloc, place.checked_add(1)?, load.response, events)?;
+            answer(alloc, number_for(load, place)?, load.response, events)?;
             events.push(Event::ClientTook(count)).ok()?;
         }
     }
@@ -158,10 +187,16 @@ pub(crate) fn run_once(
 }
 
 /// A connection a round, each with the same events.
-fn get_by(alloc: Global, config: &Config, rounds: u32, made: &mut Made, load: Load) -> Option<()>
+fn request_by(
+    alloc: Global,
+    config: &Config,
+    rounds: u32,
+    made: &mut Made,
+    load: Load,
+) -> Option<()>
     requires { IsServable (setup_of config.now) }
 {
-    let count = answer_octets(alloc, config, load.response)?;
+    let count = answer_octets(alloc, config, load)?;
     let mut events = Vec::new(alloc);
     push_events(alloc, load, count, &mut events)?;
     for _ in 0..rounds {
@@ -171,6 +206,10 @@ fn get_by(alloc: Global, config: &Config, rounds: u32, made: &mut Made, load: Lo
 }
 
 /// The same by one route for all requests.
-pub(crate) fn get(alloc: Global, rounds: u32, made: &mut Made, load: Load) -> Option<()> {
-    get_by(alloc, &config(alloc, Passing::Whole)?, rounds, made, load)
+pub(crate) fn request(alloc: Global, rounds: u32, made: &mut Made, load: Load) -> Option<()> {
+    let config = Config {
+        keep: load.is_kept,
+        ..config(alloc, Passing::Whole)?
+    };
+    request_by(alloc, &config, rounds, made, load)
 }

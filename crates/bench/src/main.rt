@@ -10,10 +10,11 @@ mod gets;
 mod judging;
 mod made;
 mod passed;
+mod posts;
 mod samples;
 mod texts;
 
-use crate::gets::Load;
+use crate::gets::{Load, Method};
 use crate::judging::{Judging, StreamCount};
 use crate::made::Made;
 use crate::passed::Passed;
@@ -23,7 +24,7 @@ use std::env;
 use std::process::ExitCode;
 
 /// The names of the parts.
-const PARTS: [&str; 35] = [
+const PARTS: [&str; 38] = [
     "exchanges",
     "decode",
     "send",
@@ -55,6 +56,9 @@ const PARTS: [&str; 35] = [
     "gets-bare",
     "gets-chunked",
     "gets-trailers",
+    "gets-kept",
+    "gets-kept-active",
+    "posts",
     "pieces-none",
     "pieces",
     "parts-none",
@@ -113,7 +117,7 @@ fn run_part(part: &str, alloc: Global, rounds: u32, made: &mut Made) -> Option<(
 /// Runs the rounds of a part that is one of several of its kind.
 fn run_many(part: &str, alloc: Global, rounds: u32, made: &mut Made) -> Option<()> {
     match load_of(part) {
-        Some(load) => gets::get(alloc, rounds, made, load),
+        Some(load) => gets::request(alloc, rounds, made, load),
         None => {
             let (streams, judging) = judged_by(part)?;
             judging::judge(alloc, rounds, made, streams, judging)
@@ -121,24 +125,47 @@ fn run_many(part: &str, alloc: Global, rounds: u32, made: &mut Made) -> Option<(
     }
 }
 
-/// How many requests a part makes that nobody answers, how many that are answered, and with what.
+/// The requests that a part makes.
 fn load_of(part: &str) -> Option<Load> {
-    let (active, answered, response) = match part {
-        "gets" => (0, 100, SMALL_RESPONSE),
-        "gets-active" => (99, 100, SMALL_RESPONSE),
-        "active" => (99, 0, SMALL_RESPONSE),
-        "gets-9000" => (0, 9_000, SMALL_RESPONSE),
-        "gets-9100" => (0, 9_100, SMALL_RESPONSE),
-        "gets-bare" => (0, 100, BARE_RESPONSE),
-        "gets-chunked" => (0, 100, CHUNKED_RESPONSE),
-        "gets-trailers" => (0, 100, TRAILING_RESPONSE),
-        _ => return None,
+    let kept = Load {
+        is_kept: true,
+        ..gets_of(0, 100, SMALL_RESPONSE)
     };
-    Some(Load {
+    match part {
+        "gets-kept" => Some(kept),
+        "gets-kept-active" => Some(Load { active: 99, ..kept }),
+        "posts" => Some(Load {
+            method: Method::Post,
+            ..gets_of(0, 100, SMALL_RESPONSE)
+        }),
+        _ => closed_gets_of(part),
+    }
+}
+
+/// The GETs that a part makes whose connections aren't kept.
+fn closed_gets_of(part: &str) -> Option<Load> {
+    match part {
+        "gets" => Some(gets_of(0, 100, SMALL_RESPONSE)),
+        "gets-active" => Some(gets_of(99, 100, SMALL_RESPONSE)),
+        "active" => Some(gets_of(99, 0, SMALL_RESPONSE)),
+        "gets-9000" => Some(gets_of(0, 9_000, SMALL_RESPONSE)),
+        "gets-9100" => Some(gets_of(0, 9_100, SMALL_RESPONSE)),
+        "gets-bare" => Some(gets_of(0, 100, BARE_RESPONSE)),
+        "gets-chunked" => Some(gets_of(0, 100, CHUNKED_RESPONSE)),
+        "gets-trailers" => Some(gets_of(0, 100, TRAILING_RESPONSE)),
+        _ => None,
+    }
+}
+
+/// So many GETs that nobody answers, and so many that are answered with this response.
+fn gets_of(active: u32, answered: u32, response: &'static [u8]) -> Load {
+    Load {
+        method: Method::Get,
+        is_kept: false,
         active,
         answered,
         response,
-    })
+    }
 }
 
 /// Which frames a part judges, and on which connection.

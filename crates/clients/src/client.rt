@@ -3,9 +3,15 @@
 ghost use Rattle.std.specs.Prelude.{◌+◌, ◌<◌, ◌≤◌, ◌≡◌, ◌^◌, is_none, not, if◌then◌else◌};
 ghost use Rattle.sockets.specs.declared.portion.Portion.TheVariants.{Whole};
 ghost use Rattle.gateway.specs.Setups.{setup_of, IsServable};
+ghost use Rattle.model.specs.Setup.{Setup};
+ghost use Rattle.driver.specs.Services.{Begins};
+ghost use Rattle.sockets.specs.Moves.{seen_in};
+ghost use Rattle.theory_sockets.specs.Passed.{IsNew};
+ghost use Rattle.clients.specs.Serving.{IsServed, IsTold};
 
 use crate::log::say_exchanges;
 use crate::pace::Pace;
+use crate::waits::{Limits, Waits};
 use crate::watched::Watched;
 use driver::{ServeFault, Service, ServiceEnd, WorldFault};
 use exchange_log::Exchanges;
@@ -14,11 +20,11 @@ use h2gw_setup::setting::Setting;
 use mio::Registry;
 use mio::event::Event as Report;
 use mio::net::TcpStream as Socket;
-use sockets::{Buffer, Departure, Portion, SocketWorld};
+use sockets::{Buffer, Departure, Portion, SocketWorld, Wire};
 use std::alloc::Global;
 use std::io;
-use std::net::SocketAddr;
-use std::time::{Duration, Instant};
+use std::net::{Net, SocketAddr};
+use std::time::{Clock, Duration, Instant};
 
 /// So many turns in a row a client has at most, whether others wait for theirs or not.
 const ROUND: u32 = 16;
@@ -36,7 +42,7 @@ pub struct Client<'a> {
     /// It stands among those that have something left.
     pub is_queued: bool,
     /// As long as it is served: a gateway is large, and a list of clients moves them.
-    serving: Option<Box<Serving<'a>>>,
+    serving: Option<Box<Serving<'a, HostRuntime, Socket>>>,
     /// Once it is left.
     departure: Option<Departure<Socket>>,
     /// When it came.
@@ -50,11 +56,11 @@ pub struct Client<'a> {
 /// The sockets of a client, whose exchanges with upstreams are noted or aren't.
 pub type WatchedSockets<'a> = Watched<'a, HostRuntime, SocketWorld<'a, HostRuntime, Socket>>;
 
-/// What serves a client.
+/// What serves a client, whose octets pass through sockets of whichever kind.
 #[derive(Drop)]
-struct Serving<'a> {
+struct Serving<'a, N: Net + Clock, S: Wire> {
     service: Service,
-    sockets: WatchedSockets<'a>,
+    sockets: Watched<'a, N, SocketWorld<'a, N, S>>,
     /// How many turns it has yet.
     turns: u32,
     /// By how much it is read at a time, where other clients are there.
@@ -62,6 +68,8 @@ struct Serving<'a> {
     // Its calls and failures can be counted as long as it has turns.
     ghost calls: { sockets.world.calls + turns < 2 ^ 64 },
     ghost failures: { sockets.world.failures + turns < 2 ^ 64 },
+    // Its service stands for all that passed through its sockets from their beginning on.
+    ghost stands: { ∥ IsServed S.left S.held service sockets.world.sockets ∥₁ },
 }
 
 /// What a client has left behind its turns.
@@ -111,6 +119,15 @@ fn exchanges_for(alloc: Global, setting: &Setting) -> Option<Exchanges>
     Some(Exchanges::new(alloc, most))
 }
 
+/// Where it is noted since when servers are waited for, if it is.
+fn waits_for(alloc: Global, setting: &Setting) -> Option<Waits> {
+    if Limits::of(setting).are_some() {
+        Some(Waits::new(alloc))
+    } else {
+        None
+    }
+}
+
 impl<'a> Client<'a> {
     /// A client that came, with this number, from 1 on. An error is the socket's or the clock's, or
     /// says that memory was refused.
@@ -134,7 +151,9 @@ impl<'a> Client<'a> {
             number,
             socket,
         )?;
-        let sockets = Watched::new(common.rt, world, exchanges_for(alloc, common.setting));
+        let exchanges = exchanges_for(alloc, common.setting);
+        let waits = waits_for(alloc, common.setting);
+        let sockets = Watched::new(common.rt, world, exchanges, waits);
         let serving = Serving::begin(service, sockets, common.setting.turns);
         Ok(Client {
             number,
@@ -158,7 +177,7 @@ impl<'a> Client<'a> {
     /// Notes what was reported of one of its sockets. An error says that it is lost.
     pub fn hear(&mut self, report: &Report) -> Result<(), WorldFault> {
         if let Some(serving) = &mut self.serving {
-            return serving.sockets.world.hear(report);
+            return serving.hear(report);
         }
         if let Some(departure) = &mut self.departure {
             departure.hear(report);
@@ -198,7 +217,7 @@ impl<'a> Client<'a> {
             return;
         };
         self.opened = serving.service.opened();
-        let Serving { mut sockets, .. } = Box::into_inner(serving);
+        let mut sockets = Box::into_inner(serving).into_sockets();
         sockets.abandon();
         say_exchanges(common, self.number, self.address, &mut sockets);
         if let Ok(now) = Instant::now(common.rt) {
@@ -228,12 +247,11 @@ impl<'a> Client<'a> {
         let Some(serving) = &mut self.serving else {
             return;
         };
-        if serving.sockets.world.take_moved() {
+        if serving.take_moved() {
             self.moved = now;
         }
         if now.duration_since(self.moved) >= most {
-            // A socket that can't be shut is over, which is reported.
-            let _ = serving.sockets.world.end_client();
+            serving.end_client();
         }
     }
 
@@ -243,13 +261,28 @@ impl<'a> Client<'a> {
             serving.end_idle(now, most);
         }
     }
+
+    /// Fails connections to servers that were waited for too long. The answer is whether one is. An
+    /// error says that the client is lost.
+    pub fn look(&mut self, now: Instant, limits: &Limits) -> Result<bool, WorldFault> {
+        match &mut self.serving {
+            Some(serving) => serving.look(now, limits),
+            None => Ok(false),
+        }
+    }
 }
 
-impl<'a> Serving<'a> {
+impl<'a, N: Net + Clock, S: Wire> Serving<'a, N, S> {
     /// Serving begins, for so many turns at most, in a world that wasn't asked for anything yet.
-    fn begin(service: Service, sockets: WatchedSockets<'a>, turns: u32) -> Serving<'a>
+    fn begin(
+        service: Service,
+        sockets: Watched<'a, N, SocketWorld<'a, N, S>>,
+        turns: u32,
+    ) -> Serving<'a, N, S>
         requires calls { sockets.world.calls ≡ 0 }
         requires failures { sockets.world.failures ≡ 0 }
+        requires service { (setup : Setup) × Begins setup service }
+        requires new { IsNew (seen_in sockets.world.sockets) }
     {
         Serving {
             service,
@@ -264,22 +297,69 @@ impl<'a> Serving<'a> {
         self.sockets.world.note_idle(self.service.idle(), now, most);
     }
 
+    /// Fails connections to servers that were waited for too long. The answer is whether one is. An
+    /// error says that the client is lost, with which serving it ends.
+    fn look(&mut self, now: Instant, limits: &Limits) -> Result<bool, WorldFault> {
+        match self.sockets.look(self.service.idle(), now, limits) {
+            Ok(is_late) => Ok(is_late),
+            Err(fault) => {
+                self.service.fail();
+                Err(fault)
+            }
+        }
+    }
+
+    /// Notes what was reported of one of its sockets. An error says that the client is lost, with
+    /// which serving it ends.
+    fn hear(&mut self, report: &Report) -> Result<(), WorldFault> {
+        match self.sockets.world.hear(report) {
+            Ok(()) => Ok(()),
+            Err(fault) => {
+                self.service.fail();
+                Err(fault)
+            }
+        }
+    }
+
+    /// Whether something came of the client, or it took something, since that was last asked.
+    fn take_moved(&mut self) -> bool {
+        self.sockets.world.take_moved()
+    }
+
+    /// Ends what the client sends.
+    fn end_client(&mut self) {
+        // A socket that can't be shut is over, which is reported.
+        let _ = self.sockets.world.end_client();
+    }
+
+    /// Its sockets, as serving it ends. There is a log of which what is promised holds, and what
+    /// passed through them is what that tells.
+    fn into_sockets(self) -> Watched<'a, N, SocketWorld<'a, N, S>>
+        ensures { ∥ IsTold S.left S.held result.world.sockets ∥₁ }
+    {
+        let Serving { sockets, .. } = self;
+        sockets
+    }
+
     /// Takes a round of turns, with a buffer that was lent for that.
-    fn take_turns(
-        &mut self,
-        rt: &HostRuntime,
-        buffer: &mut Buffer,
-        is_told: bool,
-        is_alone: bool,
-    ) -> Round
+    fn take_turns(&mut self, clock: &N, buffer: &mut Buffer, is_told: bool, is_alone: bool) -> Round
         ensures turns { self.old.turns ≤ self.new.turns + 16 }
     {
         buffer.limit(self.portion_for(is_alone));
-        self.sockets.world.swap_buffer(buffer);
-        self.catch_up(is_told);
-        let round = self.take_round_for(rt, is_alone);
-        self.sockets.world.swap_buffer(buffer);
+        self.swap_buffer(buffer);
+        if is_told {
+            self.catch_up();
+        }
+        let round = self.take_round_for(clock, is_alone);
+        self.swap_buffer(buffer);
         round
+    }
+
+    /// Lends its world another buffer, and has its own back.
+    fn swap_buffer(&mut self, buffer: &mut Buffer)
+        ensures { self.new.turns ≡ self.old.turns }
+    {
+        self.sockets.world.swap_buffer(buffer);
     }
 
     /// By how much it is read at a time: others wait no longer than a small portion takes.
@@ -293,21 +373,21 @@ impl<'a> Serving<'a> {
         }
     }
 
-    /// Its world was told of all that is reported, or wasn't.
-    fn catch_up(&mut self, is_told: bool) {
-        if is_told {
-            self.sockets.world.catch_up();
-        }
+    /// Its world was told of all that is reported.
+    fn catch_up(&mut self)
+        ensures { self.new.turns ≡ self.old.turns }
+    {
+        self.sockets.world.catch_up();
     }
 
     /// Takes a round of turns, which is brief where others are there.
-    fn take_round_for(&mut self, rt: &HostRuntime, is_alone: bool) -> Round
+    fn take_round_for(&mut self, clock: &N, is_alone: bool) -> Round
         ensures turns { self.old.turns ≤ self.new.turns + 16 }
     {
         if is_alone {
             self.take_round()
         } else {
-            self.take_brief_round(rt)
+            self.take_brief_round(clock)
         }
     }
 
@@ -325,25 +405,25 @@ impl<'a> Serving<'a> {
 
     /// Takes such a round that ends where it took long, too. What its turns took says by how much
     /// the client is read in the next one.
-    fn take_brief_round(&mut self, rt: &HostRuntime) -> Round
+    fn take_brief_round(&mut self, clock: &N) -> Round
         ensures turns { self.old.turns ≤ self.new.turns + 16 }
     {
-        let Ok(now) = Instant::now(rt) else {
+        let Ok(now) = Instant::now(clock) else {
             return self.take_round();
         };
         let mut pace = Pace::begin(now);
-        let round = self.take_turns_at(rt, &mut pace);
+        let round = self.take_turns_at(clock, &mut pace);
         self.portion = pace.portion(self.portion);
         round
     }
 
     /// Takes turns while there is something left and the round isn't over, so many in a row at
     /// most.
-    fn take_turns_at(&mut self, rt: &HostRuntime, pace: &mut Pace) -> Round
+    fn take_turns_at(&mut self, clock: &N, pace: &mut Pace) -> Round
         ensures turns { self.old.turns ≤ self.new.turns + 16 }
     {
         for _ in 0..ROUND {
-            if let Some(round) = self.take_turn_at(rt, pace) {
+            if let Some(round) = self.take_turn_at(clock, pace) {
                 return round;
             }
         }
@@ -351,11 +431,11 @@ impl<'a> Serving<'a> {
     }
 
     /// Takes a turn, and notes when it ended. The answer is what the round came to, if it is over.
-    fn take_turn_at(&mut self, rt: &HostRuntime, pace: &mut Pace) -> Option<Round>
+    fn take_turn_at(&mut self, clock: &N, pace: &mut Pace) -> Option<Round>
         ensures turns { self.old.turns ≤ self.new.turns + 1 }
     {
         let round = self.take_turn();
-        let Ok(now) = Instant::now(rt) else {
+        let Ok(now) = Instant::now(clock) else {
             return Some(round.unwrap_or(Round::More));
         };
         pace.note(now);
@@ -372,8 +452,7 @@ impl<'a> Serving<'a> {
         if self.turns == 0 {
             return Some(Round::Ended(Ok(ServiceEnd::Turns)));
         }
-        self.turns -= 1;
-        match self.service.take_turn(&mut self.sockets) {
+        match self.turn() {
             // Where no turn is left it ends at once, though nothing is there.
             Ok(None) if self.turns > 0 && self.sockets.world.is_quiet() => Some(Round::Nothing),
             Ok(None) if self.turns > 0 && self.sockets.world.is_behind() => Some(Round::More),
@@ -381,5 +460,14 @@ impl<'a> Serving<'a> {
             Ok(Some(ended)) => Some(Round::Ended(Ok(ended))),
             Err(fault) => Some(Round::Ended(Err(fault))),
         }
+    }
+
+    /// A turn of its service in its world.
+    fn turn(&mut self) -> Result<Option<ServiceEnd>, ServeFault>
+        requires { 0 < self.old.turns }
+        ensures { self.new.turns + 1 ≡ self.old.turns }
+    {
+        self.turns -= 1;
+        self.service.take_turn(&mut self.sockets)
     }
 }

@@ -7,6 +7,7 @@ ghost use Rattle.h2gw_setup.specs.Stops.{status_of};
 use crate::client::{Client, Common, Outcome, Remaining};
 use crate::entrance::{Came, Entrance, Why};
 use crate::log::{say_ended, say_refused};
+use crate::waits::{Limits, has_limits};
 use driver::ServeFault;
 use h2gw_setup::setting::Setting;
 use h2gw_setup::stops::Stop;
@@ -153,7 +154,7 @@ impl<'a> Crowd<'a> {
 
     /// Whether something is to be done where only time passes.
     fn is_ticking(&self, setting: &Setting) -> bool {
-        self.leaving > 0 || setting.idle > 0 || setting.keep_idle > 0 || self.entrance.is_paused()
+        self.leaving > 0 || has_limits(setting) || self.entrance.is_paused()
     }
 
     /// Heeds what was reported, and looks again as long as so many sockets were that others may
@@ -215,9 +216,8 @@ impl<'a> Crowd<'a> {
     {
         let client = &mut self.clients[place];
         if client.hear(report).is_err() {
-            client.end(common);
             self.leaving = self.leaving.saturating_add(1);
-            note_end(common, client, &Err(ServeFault::World))?;
+            lose(common, client)?;
         }
         join(client, &mut self.queue)
     }
@@ -279,7 +279,9 @@ impl<'a> Crowd<'a> {
         }
         self.ticked = Some(now);
         self.entrance.resume();
-        look_after_all(&mut self.clients, now, common.setting, &mut self.queue)
+        let lost = look_after_all(common, &mut self.clients, now, &mut self.queue)?;
+        self.leaving = self.leaving.saturating_add(lost);
+        Ok(())
     }
 
     /// Each client that has something left has turns, and stands behind the others then if it has
@@ -381,39 +383,68 @@ fn join(client: &mut Client<'_>, queue: &mut VecDeque<u32>) -> Result<(), Stop>
     queue.push_back(client.number).map_err(|_| Stop::Memory)
 }
 
-/// Looks after all of these.
-fn look_after_all(
-    clients: &mut [Client<'_>],
+/// Looks after all of these. The answer is how many are lost.
+fn look_after_all<'a>(
+    common: &Common<'a>,
+    clients: &mut [Client<'a>],
     now: Instant,
-    setting: &Setting,
     queue: &mut VecDeque<u32>,
-) -> Result<(), Stop>
+) -> Result<usize, Stop>
     ensures { IfErr result (λ stop. 2 ≤ status_of stop) }
 {
+    let mut lost: usize = 0;
     for client in clients {
-        look_after(client, now, setting, queue)?;
+        if look_after(common, client, now, queue)? {
+            lost = lost.saturating_add(1);
+        }
     }
-    Ok(())
+    Ok(lost)
 }
 
 /// A client that is being left goes on with that, one that is idle for too long is ended, and so
-/// are connections to servers that are.
-fn look_after(
-    client: &mut Client<'_>,
+/// are connections to servers that are, or that are waited for too long. The answer is whether it
+/// is lost.
+fn look_after<'a>(
+    common: &Common<'a>,
+    client: &mut Client<'a>,
     now: Instant,
-    setting: &Setting,
     queue: &mut VecDeque<u32>,
-) -> Result<(), Stop>
+) -> Result<bool, Stop>
     ensures { IfErr result (λ stop. 2 ≤ status_of stop) }
 {
     if client.is_left() {
-        return join(client, queue);
+        join(client, queue)?;
+        return Ok(false);
     }
+    end_idle(common.setting, client, now);
+    match client.look(now, &Limits::of(common.setting)) {
+        Ok(false) => Ok(false),
+        Ok(true) => {
+            join(client, queue)?;
+            Ok(false)
+        }
+        Err(_) => {
+            lose(common, client)?;
+            join(client, queue)?;
+            Ok(true)
+        }
+    }
+}
+
+/// A client that is idle for too long is ended, and so are connections to servers that are.
+fn end_idle(setting: &Setting, client: &mut Client<'_>, now: Instant) {
     if setting.idle > 0 {
         client.watch(now, Duration::from_secs(u64::from(setting.idle)));
     }
     if setting.keep_idle > 0 {
         client.end_idle(now, Duration::from_secs(u64::from(setting.keep_idle)));
     }
-    Ok(())
+}
+
+/// A client is lost.
+fn lose<'a>(common: &Common<'a>, client: &mut Client<'a>) -> Result<(), Stop>
+    ensures { IfErr result (λ stop. 2 ≤ status_of stop) }
+{
+    client.end(common);
+    note_end(common, client, &Err(ServeFault::World))
 }

@@ -8,9 +8,11 @@ mod entrance;
 mod listening;
 mod log;
 mod pace;
+mod waits;
 mod watched;
 
 pub use client::Common;
 pub use crowd::{Crowd, serve_crowd};
 pub use listening::{serve_at, serve_clients};
 pub use pace::Pace;
+pub use waits::{Limits, Wait};

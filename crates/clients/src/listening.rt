@@ -1,17 +1,23 @@
 //! The connections of clients.
 
-ghost use Rattle.std.specs.Prelude.{◌≡◌, ◌≤◌, ◌&&◌, ◌==◌, IfErr, not};
+ghost use Rattle.std.specs.Prelude.{◌≡◌, ◌+◌, ◌≤◌, ◌↔◌, ◌×◌, IfErr, IsTrue, false};
 ghost use Rattle.gateway.specs.Setups.{setup_of, IsServable};
 ghost use Rattle.h2gw_setup.specs.Stops.{status_of};
+ghost use Rattle.sockets.specs.Moves.{seen_in};
+ghost use Rattle.theory_sockets.specs.Passed.{IsNew, IsServedBy};
 
 use crate::crowd::serve_crowd;
-use driver::{ServeFault, serve};
+use crate::waits::has_limits;
+use driver::{ServeFault, ServiceEnd, serve};
+use gateway::Config;
 use h2gw_setup::setting::Setting;
 use h2gw_setup::stops::Stop;
 use mio::net::TcpStream as Socket;
-use sockets::SocketWorld;
+use sockets::{SocketWorld, Wire};
+use std::alloc::Global;
 use std::io::ErrorKind;
-use std::net::{TcpListener, TcpStream};
+use std::net::{Net, TcpListener, TcpStream};
+use std::time::Clock;
 
 /// Says where clients connect to, and serves their connections, so many at once as the setting
 /// says.
@@ -29,15 +35,15 @@ pub fn serve_clients(rt: &HostRuntime, setting: &Setting) -> Result<(), Stop>
     }
 }
 
-/// Whether one client is served after another, however long it says nothing and connections to
-/// servers are idle, and none is told of.
+/// Whether one client is served after another, however long anything takes, and none is told of.
 /// This is the default, and has a way of its own (`serve_at`), which is the program's as it was
 /// first described: one client waits for another, an error of accept ends the program, and there is
 /// no reactor.
 fn is_plain(setting: &Setting) -> bool
-    ensures { result ≡ (((setting.now.clients == 1 && setting.now.idle == 0) && setting.now.keep_idle == 0) && not setting.now.is_logged) }
+    ensures { IsTrue result ↔ (setting.now.clients ≡ 1) × (setting.now.idle + setting.now.keep_idle + setting.now.connect + setting.now.answer ≡ 0)
+        × (setting.now.is_logged ≡ false) }
 {
-    setting.clients == 1 && setting.idle == 0 && setting.keep_idle == 0 && !setting.is_logged
+    setting.clients == 1 && !has_limits(setting) && !setting.is_logged
 }
 
 /// Serves the connections of clients at a listener, one after another.
@@ -71,11 +77,27 @@ fn serve_client(rt: &HostRuntime, setting: &Setting, client: TcpStream) -> Resul
         Err(_) => return Ok(()),
     };
     let turns = u64::from(setting.turns);
-    let ended = serve(rt.alloc(), &setting.config, &mut world, turns);
+    let ended = serve_world(rt.alloc(), &setting.config, &mut world, turns);
     // Where that fails the client has gone.
     let _ = world.finish();
     match ended {
         Err(ServeFault::Memory) => Err(Stop::Memory),
         Ok(_) | Err(ServeFault::World | ServeFault::NotAdmitted(_)) => Ok(()),
     }
+}
+
+/// Serves a new world of sockets for so many turns at most. There is a log of which what is
+/// promised holds, and what passed through the sockets is what it tells, whichever kind they are.
+fn serve_world<N: Net + Clock, S: Wire>(
+    alloc: Global,
+    config: &Config,
+    world: &mut SocketWorld<'_, N, S>,
+    turns: u64,
+) -> Result<ServiceEnd, ServeFault>
+    requires servable { IsServable (setup_of config.now) }
+    requires counts { (world.old.calls ≡ 0) × (world.old.failures ≡ 0) }
+    requires new { IsNew (seen_in world.old.sockets) }
+    ensures { IsServedBy S.left S.held (setup_of config.now) result (seen_in world.old.sockets) (seen_in world.new.sockets) }
+{
+    serve(alloc, config, world, turns)
 }

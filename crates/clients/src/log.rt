@@ -110,6 +110,7 @@ fn words_of_end(end: End) -> &'static str {
         End::Whole => "whole",
         End::Refused => "refused",
         End::Reset => "reset",
+        End::TimedOut => "timed out",
         End::EndedEarly => "ended early",
         End::NoResponse => "no response",
         End::Malformed => "not a response",

@@ -1,4 +1,5 @@
-//! A world whose exchanges with upstreams are noted, or aren't.
+//! A world whose exchanges with upstreams are noted, or aren't, and so is since when it is waited for
+//! them.
 
 ghost use Rattle.std.specs.Prelude.{◌≡◌, ◌+◌, ◌<◌, ◌^◌, ◌∷◌, ◌++◌, [], true, List, Some, is_ok, IfOk, OnOk, OnErr, if◌then◌else◌};
 ghost use Rattle.model.specs.Logs.{Step};
@@ -6,11 +7,15 @@ ghost use Rattle.effects.specs.Views.{output_of};
 ghost use Rattle.driver.specs.Worlds.{AddsEvent, AddsHanded, SaysOver, KeepsRooms, with_outputs};
 ghost use Rattle.driver.specs.Calls.{HearsIdleFirst};
 ghost use Rattle.driver.specs.Calls.Call.{Asked, Applied};
+ghost use Rattle.clients.specs.Serving.{StaysServed, FailsServed};
 
+use crate::waits::{Limits, Waits};
 use driver::{Next, World, WorldFault};
 use exchange_log::{Exchanges, Over};
 use gateway::{Event, Output};
+use sockets::{SocketWorld, Wire};
 use std::alloc::AllocError;
+use std::net::Net;
 use std::time::{Clock, Instant};
 
 /// A world, and its exchanges where they are noted.
@@ -21,13 +26,16 @@ pub struct Watched<'a, C: Clock, W: Drop> {
     clock: &'a C,
     /// None where they aren't noted, or where memory for that was refused.
     exchanges: Option<Exchanges>,
+    /// Likewise.
+    waits: Option<Waits>,
 }
 
-/// Notes what happens.
-fn note_event(exchanges: &mut Exchanges, event: &Event) -> Result<(), AllocError> {
+/// Notes what happens, and whether it is of a connection that was waited for too long.
+fn note_event(exchanges: &mut Exchanges, event: &Event, is_late: bool) -> Result<(), AllocError> {
     match event {
         Event::Up(k, octets) => exchanges.hear(*k, octets),
         Event::UpEnd(k) => exchanges.end(*k),
+        Event::UpFailed(k) if is_late => exchanges.time_out(*k),
         Event::UpFailed(k) => exchanges.fail(*k),
         Event::UpTook(k, _) => {
             exchanges.take(*k);
@@ -51,15 +59,47 @@ fn note_output(
     }
 }
 
+/// Notes on which connection something moved, or which isn't open any more. The answer is whether
+/// that was waited for too long.
+fn note_move(waits: &mut Waits, event: &Event) -> bool {
+    match event {
+        Event::Up(k, _) | Event::UpTook(k, _) => {
+            waits.stir(*k);
+            false
+        }
+        Event::UpEnd(k) | Event::UpFailed(k) => waits.close(*k),
+        Event::Client(_) | Event::ClientEnd | Event::ClientTook(_) | Event::Drain => false,
+    }
+}
+
+/// Notes which connections are open.
+fn note_open(waits: &mut Waits, output: &Output) -> Result<(), AllocError> {
+    match output {
+        Output::Open(k, _) => waits.open(*k),
+        Output::Close(k) => {
+            waits.close(*k);
+            Ok(())
+        }
+        Output::Client(_) | Output::Up(_, _) | Output::CloseClient => Ok(()),
+    }
+}
+
 impl<'a, C: Clock, W: World + Drop> Watched<'a, C, W> {
-    /// A world whose exchanges are noted in these from now on, where there are some.
-    pub fn new(clock: &'a C, world: W, exchanges: Option<Exchanges>) -> Watched<'a, C, W>
+    /// A world whose exchanges are noted in these from now on, where there are some, and since when
+    /// it is waited for upstreams in those.
+    pub fn new(
+        clock: &'a C,
+        world: W,
+        exchanges: Option<Exchanges>,
+        waits: Option<Waits>,
+    ) -> Watched<'a, C, W>
         ensures { result.world ≡ world }
     {
         Watched {
             world,
             clock,
             exchanges,
+            waits,
         }
     }
 
@@ -95,11 +135,23 @@ impl<'a, C: Clock, W: World + Drop> Watched<'a, C, W> {
     fn note_event(&mut self, event: &Event)
         ensures { self.new.world ≡ self.old.world }
     {
+        let is_late = self.note_move(event);
         let Some(exchanges) = &mut self.exchanges else {
             return;
         };
-        if note_event(exchanges, event).is_err() {
+        if note_event(exchanges, event, is_late).is_err() {
             self.exchanges = None;
+        }
+    }
+
+    /// Notes on which connection something moved. The answer is whether it failed since it was
+    /// waited for too long.
+    fn note_move(&mut self, event: &Event) -> bool
+        ensures { self.new.world ≡ self.old.world }
+    {
+        match &mut self.waits {
+            Some(waits) => note_move(waits, event),
+            None => false,
         }
     }
 
@@ -117,12 +169,42 @@ impl<'a, C: Clock, W: World + Drop> Watched<'a, C, W> {
     fn note_output(&mut self, output: &Output)
         ensures { self.new.world ≡ self.old.world }
     {
+        self.note_open(output);
         let now = self.now_for(output);
         let Some(exchanges) = &mut self.exchanges else {
             return;
         };
         if note_output(exchanges, output, now).is_err() {
             self.exchanges = None;
+        }
+    }
+
+    /// Notes which connections are open.
+    fn note_open(&mut self, output: &Output)
+        ensures { self.new.world ≡ self.old.world }
+    {
+        let Some(waits) = &mut self.waits else {
+            return;
+        };
+        if note_open(waits, output).is_err() {
+            self.waits = None;
+        }
+    }
+}
+
+impl<'a, C: Clock, N: Net + Clock, S: Wire> Watched<'a, C, SocketWorld<'a, N, S>> {
+    /// Notes which connections are waited for now: all but those that are idle. One of which that
+    /// is so for too long counts as failed, which is told next. The answer is whether one does. An
+    /// `Err` says that memory was refused: then the client is lost.
+    pub fn look(&mut self, idle: &[u32], now: Instant, limits: &Limits) -> Result<bool, WorldFault>
+        ensures calls { self.new.world.calls ≡ self.old.world.calls }
+        ensures failures { self.new.world.failures ≡ self.old.world.failures }
+        ensures stays { OnOk result (StaysServed S.left S.held self.old.world.sockets self.new.world.sockets) }
+        ensures fails { OnErr result (FailsServed S.left S.held self.old.world.sockets self.new.world.sockets) }
+    {
+        match &mut self.waits {
+            Some(waits) => waits.look(idle, now, limits, &mut self.world),
+            None => Ok(false),
         }
     }
 }

@@ -14,7 +14,7 @@ use std::process::Abort;
 use std::test::*;
 
 /// The preface, settings without entries, and a GET without a body on stream 1.
-const REQUEST: &[u8] =
+pub(crate) const REQUEST: &[u8] =
     b"PRI * HTTP/2.0\r\n\r\nSM\r\n\r\n\0\0\0\x04\0\0\0\0\0\0\0\x14\x01\x05\0\0\0\x01\x82\x86\x84\x41\x0fwww.example.com";
 
 /// What a client is sent: the gateway's settings, the acknowledgement of its own, and the status
@@ -126,7 +126,7 @@ fn what_clients_are_sent_goes_out_where_their_turns_end(rt: HostRuntime) -> Resu
 }
 
 /// A setting for two clients, both at once, who may be idle for a second. Requests go to an upstream at this address.
-fn setting_by(alloc: Global, upstream: SocketAddr) -> Result<Setting, AllocError>
+pub(crate) fn setting_by(alloc: Global, upstream: SocketAddr) -> Result<Setting, AllocError>
     ensures { IfOk result (λ setting. IsServable (setup_of setting.config)) }
 {
     let mut setting = setting_of(alloc, 2, 100);

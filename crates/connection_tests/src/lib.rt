@@ -23,6 +23,8 @@ mod socket_io_tests;
 #[cfg(test)]
 mod streams_tests;
 #[cfg(test)]
+mod tcp_tests;
+#[cfg(test)]
 mod turns_tests;
 #[cfg(test)]
 mod windows_tests;

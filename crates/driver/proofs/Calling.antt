@@ -17,8 +17,8 @@ use Rattle.effects.specs.declared.events.Output.{Output}
 use Rattle.gateway.specs.Rooms.{AreRooms}
 use Rattle.gateway.specs.Stands.{Standing, Stands, StandsNext}
 use Rattle.driver.specs.Worlds.{Handed, Serves, AddsEvent, AddsHanded, came, with_outputs, closes, is_closed, peer_of}
-use Rattle.driver.specs.Calls.{Call, Along, told, log_of, handed_by, put_behind, Moves, AppliesTo, Runs, HasCome, WasServed, AreAskedRightly}
-use Rattle.driver.specs.Calls.Call.{Asked, Applied}
+use Rattle.driver.specs.Calls.{Call, Along, told, log_of, handed_by, put_behind, AreWhole, AreCutShort, Moves, AppliesTo, Runs, HasCome, WasServed, AreAskedRightly}
+use Rattle.driver.specs.Calls.Call.{Asked, Applied, Aside}
 use Rattle.driver.specs.declared.services.Peer.{Peer}
 use Rattle.driver.specs.declared.services.ServiceEnd.{ServiceEnd}
 use Rattle.driver.specs.declared.services.ServeFault.TheVariants.{World, Memory, NotAdmitted}
@@ -51,6 +51,10 @@ tells_handed rooms idle next calls = λ steps earlier is was.
 
 -- ---- a call that was handed an output
 
+abbrev is_none_of : List Step → Bool
+is_none_of [] = true
+is_none_of (step ∷ log) = false
+
 last_of : List Step → Step → Step
 last_of [] other = other
 last_of (step ∷ log) other = step
@@ -66,6 +70,16 @@ tells_output output calls before step done is =
     let log : reverse (log_of calls) ≡ before ++ step ∷ [] = cc in
     ap (λ l. Some (reverse (put_behind output l))) (newest (log_of calls) before step log)
     ∙ ap Some (turned (with_outputs step (output_of output ∷ [])) (reverse before) ∙ ap (λ l. l ++ with_outputs step (output_of output ∷ []) ∷ []) (reverse-reverse before))
+
+-- A log that ends with a step is told by calls with an event.
+not_empty : (before : List Step) (step : Step) → [] ≡ before ++ step ∷ [] → ⊥
+not_empty [] step is = absurd (let no : true ≡ false = ap (λ (log : List Step). is_none_of log) is in cc)
+not_empty (other ∷ before) step is = absurd (let no : true ≡ false = ap (λ (log : List Step). is_none_of log) is in cc)
+
+told_some : (calls : List Call) (before : List Step) (step : Step) → told calls ≡ Some (before ++ step ∷ []) → log_of calls ≡ [] → ⊥
+told_some calls before step is none =
+    let log : reverse (log_of calls) ≡ before ++ step ∷ [] = cc in
+    not_empty before step (sym (ap reverse none) ∙ log)
 
 -- ---- what calls lead to
 
@@ -91,29 +105,37 @@ module _ {W : Type 0} (moves : W → Call → W → Type 0) (hears : W → Type 
   -- ---- outputs
 
   pub applies_none : (begun world : W) (calls : List Call) (before : List Step) (step : Step) → CameAlong begun calls world → told calls ≡ Some (before ++ step ∷ [])
-      → AppliesTo moves hears could_read heard_at looks begun calls (before ++ with_outputs step [] ∷ []) world
+      → AppliesTo moves hears could_read heard_at looks AreWhole begun calls (before ++ with_outputs step [] ∷ []) world
   applies_none begun world calls before step along is = record {
     more = calls;
     along = along;
     tells = is ∙ ap (λ s. Some (before ++ s ∷ [])) (sym (with_none step));
     same = refl;
+    are = λ whole. whole;
   }
 
   -- one more of the outputs
   pub applies_more : (begun old new : W) (calls : List Call) (before : List Step) (step : Step) (done : List Output) (output : Output) (answer : ⊤) → Goes begun old (Applied output (Ok answer)) new
-      → AppliesTo moves hears could_read heard_at looks begun calls (before ++ with_outputs step (outputs_of done) ∷ []) old
-      → AppliesTo moves hears could_read heard_at looks begun calls (before ++ with_outputs step (outputs_of (done ++ output ∷ [])) ∷ []) new
+      → AppliesTo moves hears could_read heard_at looks AreWhole begun calls (before ++ with_outputs step (outputs_of done) ∷ []) old
+      → AppliesTo moves hears could_read heard_at looks AreWhole begun calls (before ++ with_outputs step (outputs_of (done ++ output ∷ [])) ∷ []) new
   applies_more begun old new calls before step done output answer goes a = record {
     more = Applied output (Ok answer) ∷ a.more;
     along = (old, a.along, goes);
     tells = tells_output output a.more before (with_outputs step (outputs_of done)) answer a.tells ∙ ap (λ s. Some (before ++ s ∷ [])) (with_more step done output);
     same = a.same;
+    are = λ whole. (told_some a.more before (with_outputs step (outputs_of done)) a.tells, a.are whole);
   }
 
   -- One that failed tells nothing.
-  pub applies_failed : (begun old new : W) (calls : List Call) (log : List Step) (output : Output) (fault : WorldFault) → Goes begun old (Applied output (Err fault)) new
-      → AppliesTo moves hears could_read heard_at looks begun calls log old → AppliesTo moves hears could_read heard_at looks begun calls log new
-  applies_failed begun old new calls log output fault goes a = record { more = Applied output (Err fault) ∷ a.more; along = (old, a.along, goes); tells = a.tells; same = a.same }
+  pub applies_failed : (begun old new : W) (calls : List Call) (before : List Step) (step : Step) (output : Output) (fault : WorldFault) → Goes begun old (Applied output (Err fault)) new
+      → AppliesTo moves hears could_read heard_at looks AreWhole begun calls (before ++ step ∷ []) old → AppliesTo moves hears could_read heard_at looks AreCutShort begun calls (before ++ step ∷ []) new
+  applies_failed begun old new calls before step output fault goes a = record {
+    more = Applied output (Err fault) ∷ a.more;
+    along = (old, a.along, goes);
+    tells = a.tells;
+    same = a.same;
+    are = λ whole. (told_some a.more before step a.tells, a.are whole);
+  }
 
   -- ---- a world that was asked
 
@@ -122,8 +144,28 @@ module _ {W : Type 0} (moves : W → Call → W → Type 0) (hears : W → Type 
   runs_none setup world g rooms none stands = record {
     calls = [];
     along = refl;
+    whole = tt;
     hears_on = λ h. h;
     serves = serves_none setup (told []) g rooms (Some []) [] refl none stands;
+  }
+
+  -- It moved on between calls.
+  pub runs_aside : (setup : Setup) (begun old new : W) (g : Standing) (rooms : List (ℕ × ℕ)) (closed : Bool) (done : ⊤) → Goes begun old (Aside (Ok done)) new → (hears old → hears new)
+      → Runs moves hears could_read heard_at looks setup closed begun old g rooms → Runs moves hears could_read heard_at looks setup closed begun new g rooms
+  runs_aside setup begun old new g rooms closed done goes on r =
+      record { calls = Aside (Ok done) ∷ r.calls; along = (old, r.along, goes); whole = r.whole; hears_on = λ h. on (r.hears_on h); serves = r.serves }
+
+  -- It failed between calls.
+  pub served_aside : (setup : Setup) (begun old new : W) (g : Standing) (rooms : List (ℕ × ℕ)) (closed : Bool) (fault : WorldFault) → Goes begun old (Aside (Err fault)) new
+      → Runs moves hears could_read heard_at looks setup closed begun old g rooms → WasServed moves hears could_read heard_at looks setup (Err World) begun new
+  served_aside setup begun old new g rooms closed fault goes r = record {
+    calls = Aside (Err fault) ∷ r.calls;
+    along = (old, r.along, goes);
+    is = (
+      front_whole setup closed (told r.calls) (told r.calls) g rooms (Some []) (Some (handed_by r.calls)) [] refl r.serves,
+      hands_of setup closed (told r.calls) g rooms (Some []) (Some (handed_by r.calls)) [] r.serves,
+      r.whole,
+    );
   }
 
   module _ (setup : Setup) (begun old new : W) (g : Standing) (rooms : List (ℕ × ℕ)) (idle : List ℕ) (tells : TellsIdle g idle) (r : Runs moves hears could_read heard_at looks setup false begun old g rooms) where
@@ -132,6 +174,7 @@ module _ {W : Type 0} (moves : W → Call → W → Type 0) (hears : W → Type 
     runs_nothing goes on = record {
       calls = Asked rooms idle (Ok Nothing) ∷ r.calls;
       along = (old, r.along, goes);
+      whole = r.whole;
       hears_on = λ h. on (r.hears_on h);
       serves = serves_same setup (told r.calls) (told r.calls) g rooms idle (Some []) (Some (handed_by r.calls)) (Some (handed_by (Asked rooms idle (Ok Nothing) ∷ r.calls))) [] refl (tells_handed rooms idle Nothing r.calls) tells r.serves;
     }
@@ -140,6 +183,7 @@ module _ {W : Type 0} (moves : W → Call → W → Type 0) (hears : W → Type 
     runs_over goes on = record {
       calls = Asked rooms idle (Ok Over) ∷ r.calls;
       along = (old, r.along, goes);
+      whole = r.whole;
       hears_on = λ h. on (r.hears_on h);
       serves = serves_same setup (told r.calls) (told r.calls) g rooms idle (Some []) (Some (handed_by r.calls)) (Some (handed_by (Asked rooms idle (Ok Over) ∷ r.calls))) [] refl (tells_handed rooms idle Over r.calls) tells r.serves;
     }
@@ -152,6 +196,7 @@ module _ {W : Type 0} (moves : W → Call → W → Type 0) (hears : W → Type 
       is = (
         front_whole setup false (told r.calls) (told r.calls) g rooms (Some []) (Some (handed_by r.calls)) [] refl r.serves,
         hands_of setup false (told r.calls) g rooms (Some []) (Some (handed_by r.calls)) [] r.serves,
+        r.whole,
       );
     }
 
@@ -160,6 +205,7 @@ module _ {W : Type 0} (moves : W → Call → W → Type 0) (hears : W → Type 
     has_come event goes on = record {
       calls = Asked rooms idle (Ok (Happened event)) ∷ r.calls;
       along = (old, r.along, goes);
+      whole = r.whole;
       hears_on = λ h. on (r.hears_on h);
       added = r.serves.added;
       run = r.serves.run;
@@ -190,6 +236,7 @@ module _ {W : Type 0} (moves : W → Call → W → Type 0) (hears : W → Type 
       is = (
         (h.added, event, h.is, may_not_come setup false (Some h.added) g rooms (Some []) (Some (handed_by h.calls)) [] event before (refused (reverse h.added) h.run h.stands), of),
         asked_rightly,
+        h.whole,
       );
     }
 
@@ -202,6 +249,7 @@ module _ {W : Type 0} (moves : W → Call → W → Type 0) (hears : W → Type 
       is = (
         inr (unanswered setup false (Some h.added) (told h.calls) (told h.calls) g rooms (Some []) (Some (handed_by h.calls)) [] event refl before h.is),
         asked_rightly,
+        h.whole,
       );
     }
 
@@ -209,17 +257,18 @@ module _ {W : Type 0} (moves : W → Call → W → Type 0) (hears : W → Type 
       -- It was answered, and what is put out was done.
       pub runs_on : (new : W) (closed : Bool) (rooms' : List (ℕ × ℕ)) → closed ≡ list_any (λ output. closes (output_of output)) out
           → ((next : StandsNext setup g' (reverse h.added) h.run (event_of event) (outputs_of out)) → AreRooms (known_of setup (conducts (next.segment ++ h.run))) (tape_of (next.segment ++ h.run)) rooms')
-          → (hears world → hears new) → AppliesTo moves hears could_read heard_at looks begun h.calls (h.added ++ with_outputs (came event) (outputs_of out) ∷ []) new
+          → (hears world → hears new) → AppliesTo moves hears could_read heard_at looks AreWhole begun h.calls (h.added ++ with_outputs (came event) (outputs_of out) ∷ []) new
           → Runs moves hears could_read heard_at looks setup closed begun new g' rooms'
       runs_on new closed rooms' ends noted on a = record {
         calls = a.more;
         along = a.along;
+        whole = a.are h.whole;
         hears_on = λ x. on (h.hears_on x);
         serves = serves_more setup g g' [] h.added h.run event old out (told a.more) closed rooms' (Some []) (Some (handed_by h.calls)) (Some (handed_by a.more)) a.tells steps ends h.goes_on h.stands noted h.hands (ap Some a.same);
       }
 
       -- A front of it was.
-      pub served_front : (new : W) (done more : List logs.Output) → outputs_of out ≡ done ++ more → AppliesTo moves hears could_read heard_at looks begun h.calls (h.added ++ with_outputs (came event) done ∷ []) new
+      pub served_front : (new : W) (done more : List logs.Output) → outputs_of out ≡ done ++ more → AppliesTo moves hears could_read heard_at looks AreCutShort begun h.calls (h.added ++ with_outputs (came event) done ∷ []) new
           → WasServed moves hears could_read heard_at looks setup (Err World) begun new
       served_front new done more parts a = record {
         calls = a.more;
@@ -227,6 +276,7 @@ module _ {W : Type 0} (moves : W → Call → W → Type 0) (hears : W → Type 
         is = (
           front_lacks setup g g' [] h.added h.run event old out (told a.more) done more parts a.tells steps h.stands,
           hands_step setup [] h.added (with_outputs (came event) done) (Some []) (Some (handed_by h.calls)) (Some (handed_by a.more)) (told a.more) a.tells (ap Some a.same) h.hands,
+          a.are h.whole,
         );
       }
 
@@ -240,9 +290,10 @@ module _ {W : Type 0} (moves : W → Call → W → Type 0) (hears : W → Type 
     is = (
       serves_run setup closed ended (told r.calls) g rooms (Some []) (Some (handed_by r.calls)) [] r.serves is,
       hands_of setup closed (told r.calls) g rooms (Some []) (Some (handed_by r.calls)) [] r.serves,
+      r.whole,
     );
   }
 
   -- Nothing was called.
   pub served_nothing : (setup : Setup) (world : W) → WasServed moves hears could_read heard_at looks setup (Err Memory) world world
-  served_nothing setup world = record { calls = []; along = refl; is = (inl refl, hands_none setup (told []) (Some []) [] refl) }
+  served_nothing setup world = record { calls = []; along = refl; is = (inl refl, hands_none setup (told []) (Some []) [] refl, tt) }

@@ -2,4 +2,4 @@ pub mod Adding
 pub mod Keeping
 pub mod Fitting
 mod Serving
-mod Calling
+pub mod Calling

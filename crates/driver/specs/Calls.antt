@@ -22,10 +22,11 @@ use Rattle.driver.specs.declared.world.Next.TheVariants.{Happened, Nothing, Over
 use Rattle.driver.specs.declared.world.WorldFault.{WorldFault}
 
 -- A call of a world, with its answer: it was asked what comes next, and told the open connections, each with its room, and those that are idle; or it
--- was handed an output.
+-- was handed an output. Beside these it may have moved on between calls, as a world does that is told what is reported, or have failed then.
 pub data Call : Type 0 where
   Asked : List (ℕ × ℕ) → List ℕ → Result Next WorldFault → Call
   Applied : Output → Result ⊤ WorldFault → Call
+  Aside : Result ⊤ WorldFault → Call
 
 -- A world moved from one state to another along these calls, the newest first.
 abbrev pub Along : {W : Type 0} → (W → Call → W → Type 0) → W → List Call → W → Type 0
@@ -48,6 +49,7 @@ log_of (Asked rooms idle (Ok Over) ∷ calls) = log_of calls
 log_of (Asked rooms idle (Err failed) ∷ calls) = log_of calls
 log_of (Applied output (Ok done) ∷ calls) = put_behind output (log_of calls)
 log_of (Applied output (Err failed) ∷ calls) = log_of calls
+log_of (Aside answer ∷ calls) = log_of calls
 
 -- the same with the oldest first, as a world tells its log
 abbrev pub told : List Call → Option (List Step)
@@ -59,6 +61,36 @@ handed_by [] = []
 handed_by (Asked rooms idle (Ok next) ∷ calls) = handed_by calls ++ record { steps = length (reverse (log_of calls)); rooms = rooms; idle = idle } ∷ []
 handed_by (Asked rooms idle (Err failed) ∷ calls) = handed_by calls
 handed_by (Applied output answer ∷ calls) = handed_by calls
+handed_by (Aside answer ∷ calls) = handed_by calls
+
+-- ---- which calls failed
+
+-- None of these failed, and each output stands behind an event.
+abbrev pub AreWhole : List Call → Type 0
+AreWhole [] = ⊤
+AreWhole (Asked rooms idle (Ok next) ∷ calls) = AreWhole calls
+AreWhole (Asked rooms idle (Err failed) ∷ calls) = ⊥
+AreWhole (Applied output (Ok done) ∷ calls) = (log_of calls ≡ [] → ⊥) × AreWhole calls
+AreWhole (Applied output (Err failed) ∷ calls) = ⊥
+AreWhole (Aside (Ok done) ∷ calls) = AreWhole calls
+AreWhole (Aside (Err failed) ∷ calls) = ⊥
+
+-- The newest of these failed, and those before it are whole.
+abbrev pub AreCutShort : List Call → Type 0
+AreCutShort [] = ⊥
+AreCutShort (Asked rooms idle (Ok next) ∷ calls) = ⊥
+AreCutShort (Asked rooms idle (Err failed) ∷ calls) = AreWhole calls
+AreCutShort (Applied output (Ok done) ∷ calls) = ⊥
+AreCutShort (Applied output (Err failed) ∷ calls) = (log_of calls ≡ [] → ⊥) × AreWhole calls
+AreCutShort (Aside (Ok done) ∷ calls) = ⊥
+AreCutShort (Aside (Err failed) ∷ calls) = AreWhole calls
+
+-- Which call failed, by how serving ended: the last one where that was a call of the world, and else none.
+abbrev pub FailsBy : Result ServiceEnd ServeFault → List Call → Type 0
+FailsBy (Ok ended) calls = AreWhole calls
+FailsBy (Err fault.World) calls = AreCutShort calls
+FailsBy (Err (fault.NotAdmitted peer)) calls = AreWhole calls
+FailsBy (Err fault.Memory) calls = AreWhole calls
 
 -- ---- what is idle is heard before the client
 
@@ -105,26 +137,29 @@ module _ {W : Type 0} (moves : W → Call → W → Type 0) (hears : W → Type 
     pub along : Along (Moves (hears begun)) begun calls world
     pub is : Is calls
 
-  -- It moved on behind these calls, and was asked nothing more; this is the log that is told then.
-  pub record AppliesTo (begun : W) (calls : List Call) (log : List Step) (world : W) : Type 0 where
+  -- It moved on behind these calls, and was asked nothing more; this is the log that is told then. Where they are whole, this is so of all.
+  pub record AppliesTo (Are : List Call → Type 0) (begun : W) (calls : List Call) (log : List Step) (world : W) : Type 0 where
     pub more : List Call
     pub along : Along (Moves (hears begun)) begun more world
     pub tells : told more ≡ Some log
     pub same : handed_by more ≡ handed_by calls
+    pub are : AreWhole calls → Are more
 
-  -- There are calls along which a world moved, and the gateway stands for the log that they tell, in which the client is closed or not. These are the
-  -- rooms behind it, and what was handed was right.
+  -- There are whole calls along which a world moved, and the gateway stands for the log that they tell, in which the client is closed or
+  -- not. These are the rooms behind it, and what was handed was right.
   pub record Runs (setup : Setup) (closed : Bool) (begun world : W) (g : Standing) (rooms : List (ℕ × ℕ)) : Type 0 where
     pub calls : List Call
     pub along : Along (Moves (hears begun)) begun calls world
+    pub whole : AreWhole calls
     pub hears_on : hears begun → hears world
     pub serves : Serves setup closed (told calls) g rooms (Some []) (Some (handed_by calls)) []
 
-  -- An event came with the last of these calls. The gateway stands for the log that those before it tell, in which the client isn't closed; these are
+  -- An event came with the last of these calls, which are whole. The gateway stands for the log that those before it tell, in which the client isn't closed; these are
   -- the rooms behind it, and what was handed was right.
   pub record HasCome (setup : Setup) (begun world : W) (g : Standing) (rooms : List (ℕ × ℕ)) (event : Event) : Type 0 where
     pub calls : List Call
     pub along : Along (Moves (hears begun)) begun calls world
+    pub whole : AreWhole calls
     pub hears_on : hears begun → hears world
     pub added : List Step
     pub run : List Move
@@ -134,9 +169,9 @@ module _ {W : Type 0} (moves : W → Call → W → Type 0) (hears : W → Type 
     pub rooms_are : AreRooms (known_of setup (conducts run)) (tape_of run) rooms
     pub hands : AreAllHanded setup 0 added (Some []) (Some (handed_by calls))
 
-  -- Serving it came to this.
+  -- Serving it came to this, and a call failed just where that is said.
   abbrev pub WasServed : Setup → Result ServiceEnd ServeFault → W → W → Type 0
-  WasServed setup outcome begun world = Moved (λ calls. IsServed setup outcome calls × AreAskedRightly setup calls) begun world
+  WasServed setup outcome begun world = Moved (λ calls. IsServed setup outcome calls × AreAskedRightly setup calls × FailsBy outcome calls) begun world
 
   -- A turn leaves it served on, or came to a fault.
   abbrev pub TurnLeaves : Setup → Result (Option ServiceEnd) ServeFault → W → W → Standing → List (ℕ × ℕ) → Type 0

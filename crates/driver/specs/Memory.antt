@@ -9,7 +9,7 @@ use Rattle.effects.specs.declared.events.Output.{Output}
 use Rattle.effects.specs.Views.{event_of, output_of, outputs_of}
 use Rattle.driver.specs.Worlds.{Handed, AddsEvent, with_outputs}
 use Rattle.driver.specs.Calls.{Call}
-use Rattle.driver.specs.Calls.Call.{Asked, Applied}
+use Rattle.driver.specs.Calls.Call.{Asked, Applied, Aside}
 use Rattle.driver.specs.declared.memory.MemoryWorld.{MemoryWorld}
 use Rattle.driver.specs.declared.world.Next.{Next}
 use Rattle.driver.specs.declared.world.Next.TheVariants.{Happened, Nothing, Over}
@@ -42,13 +42,14 @@ Gives old Over new = (old ≡ []) × (new ≡ [])
 Gives old Nothing new = ⊥
 
 -- How a call moves it: what comes next stands at the end of its log and isn't left any more, an output stands behind those of the last step, and a call
--- that failed changes neither.
+-- that failed changes neither. Between calls neither changes.
 abbrev pub MovesOn : MemoryWorld → Call → MemoryWorld → Type 0
 MovesOn old (Asked rooms idle (Ok next)) new = AddsEvent (Some (log_in old)) next (Some (log_in new)) × Gives (left_in old) next (left_in new)
 MovesOn old (Asked rooms idle (Err failed)) new = (log_in new ≡ log_in old) × (left_in new ≡ left_in old)
 MovesOn old (Applied output (Ok done)) new = ((before : List Step) (step : Step) → log_in old ≡ before ++ step ∷ []
     → log_in new ≡ before ++ with_outputs step (output_of output ∷ []) ∷ []) × (left_in new ≡ left_in old)
 MovesOn old (Applied output (Err failed)) new = (log_in new ≡ log_in old) × (left_in new ≡ left_in old)
+MovesOn old (Aside answer) new = (log_in new ≡ log_in old) × (left_in new ≡ left_in old)
 
 -- whether the call that comes fails, by how many come before the one that does
 abbrev pub is_due : Option ℕ → Bool

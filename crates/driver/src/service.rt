@@ -1,6 +1,6 @@
 //! A gateway that serves a world, turn by turn.
 
-ghost use Rattle.std.specs.Prelude.{◌≡◌, ◌+◌, ◌<◌, ◌≤◌, ◌^◌, ℕ, List, Option, Some, None, Result, true, false, IsErrOf, OnOk, OnErr, IfOk};
+ghost use Rattle.std.specs.Prelude.{◌≡◌, ◌+◌, ◌<◌, ◌≤◌, ◌^◌, ℕ, List, Option, Some, None, Result, Err, true, false, unwrap_or, IsErrOf, OnOk, OnErr, IfOk};
 ghost use Rattle.model.specs.Logs.{Step};
 ghost use Rattle.model.specs.Setup.{Setup};
 ghost use Rattle.gateway.specs.Setups.{setup_of, IsServable};
@@ -137,6 +137,16 @@ impl Service {
                 self.outcome = turn.transpose();
                 turn
             }
+        }
+    }
+
+    /// Notes that its world failed between two turns: with that serving it ended, unless it had
+    /// before.
+    pub fn fail(&mut self)
+        ensures { self.new ≡ record self.old { outcome = Some (unwrap_or self.old.outcome (Err ServeFault.World)) } }
+    {
+        if self.outcome.is_none() {
+            self.outcome = Some(Err(ServeFault::World));
         }
     }
 }

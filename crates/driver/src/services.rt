@@ -15,7 +15,7 @@ ghost use Rattle.driver.specs.Worlds.{Handed, AddsRun, AddsFront, AddsFrontTo, A
 ghost use Rattle.driver.specs.Worlds.{AddsUnanswered, AddsUnansweredTo, AreAllHanded, Hands, HandsTo, SaysEnd, ends};
 ghost use Rattle.driver.specs.Worlds.{with_outputs, came, closes, has_closed, Serves, StandsWithRooms, peer_of};
 ghost use Rattle.driver.specs.Services.{Begins};
-ghost use Rattle.driver.specs.Calls.{Call, Along, Moves, AppliesTo, HasCome, Runs, WasServed, TurnLeaves, told};
+ghost use Rattle.driver.specs.Calls.{Call, Along, Moves, AreWhole, AreCutShort, AppliesTo, HasCome, Runs, WasServed, TurnLeaves, told};
 ghost use Rattle.model.specs.Rooms.{IsAdmitted};
 ghost use Rattle.theory_errors.specs.Rule.{known_of};
 
@@ -98,11 +98,12 @@ fn apply_all<W: World>(world: &mut W, outputs: &[Output]) -> Result<(), WorldFau
     // It moves on along these calls, which tell the outputs that were applied.
     ensures applies { OnOk result ((begun : W) (calls : List Call) (before : List Step) (step : Step)
         → Along (Moves W.moves W.hears_idle_first W.could_read W.heard_at W.looks (W.hears_idle_first begun)) begun calls world.old → told calls ≡ Some (before ++ step ∷ [])
-        → AppliesTo W.moves W.hears_idle_first W.could_read W.heard_at W.looks begun calls (before ++ with_outputs step (outputs_of outputs.now) ∷ []) world.new) }
+        → AppliesTo W.moves W.hears_idle_first W.could_read W.heard_at W.looks AreWhole begun calls (before ++ with_outputs step (outputs_of outputs.now) ∷ [])
+        world.new) }
     ensures applies_front { OnErr result ((begun : W) (calls : List Call) (before : List Step) (step : Step)
         → Along (Moves W.moves W.hears_idle_first W.could_read W.heard_at W.looks (W.hears_idle_first begun)) begun calls world.old → told calls ≡ Some (before ++ step ∷ [])
         → (done : List Put) × (more : List Put) × (outputs_of outputs.now ≡ done ++ more)
-        × AppliesTo W.moves W.hears_idle_first W.could_read W.heard_at W.looks begun calls (before ++ with_outputs step done ∷ []) world.new) }
+        × AppliesTo W.moves W.hears_idle_first W.could_read W.heard_at W.looks AreCutShort begun calls (before ++ with_outputs step done ∷ []) world.new) }
     // Some of the first were applied, and the one that failed isn't in the log.
     ensures front { OnErr result ((before : List Step) (step : Step) → W.log world.old ≡ Some (before ++ step ∷ [])
         → (done : List Put) × (more : List Put) × (outputs_of outputs.now ≡ done ++ more) × (W.log world.new ≡ Some (before ++ with_outputs step done ∷ []))) }
@@ -270,7 +271,7 @@ pub fn serve<W: World>(
     ensures turns { IsOkAnd result (λ ended. ended ≡ ServiceEnd.Turns) → W.calls world.new ≡ W.calls world.old + turns }
     ensures over { IsOkAnd result (λ ended. ended ≡ ServiceEnd.Over) → W.over world.new ≡ true }
     // Whether the world tells a log or not: there are calls along which it moved, and of the log
-    // that these tell the same holds.
+    // that these tell the same holds. A call failed just where that is answered, as the last one.
     ensures calls_are { WasServed W.moves W.hears_idle_first W.could_read W.heard_at W.looks (setup_of config.now) result world.old world.new }
 {
     let Ok(mut service) = Service::new(alloc, config) else {

@@ -11,11 +11,11 @@ use Rattle.h1_reader.specs.Standing.{Stands, Hears, Breaks, IsEnd, is_done}
 use Rattle.h1_reader.specs.Told.{head_of, body_of}
 use Rattle.h1_reader.specs.declared.reader.Ended.TheVariants as reader
 use Rattle.exchange_log.specs.declared.exchange.End.{End}
-use Rattle.exchange_log.specs.declared.exchange.End.TheVariants.{Whole, Refused, Reset, EndedEarly, NoResponse, Malformed, TooLong, GivenUp}
+use Rattle.exchange_log.specs.declared.exchange.End.TheVariants.{Whole, Refused, Reset, TimedOut, EndedEarly, NoResponse, Malformed, TooLong, GivenUp}
 use Rattle.exchange_log.specs.declared.exchange.Exchange.{Exchange}
 use Rattle.exchange_log.specs.declared.exchanges.LoggedConnection.{LoggedConnection}
 use Rattle.exchange_log.specs.declared.exchanges.Fate.{Fate}
-use Rattle.exchange_log.specs.declared.exchanges.Fate.TheVariants.{Ended, Failed, Closed}
+use Rattle.exchange_log.specs.declared.exchanges.Fate.TheVariants.{Ended, Failed, Late, Closed}
 use Rattle.exchange_log.specs.declared.exchanges.Over.{Over}
 
 -- The line is what stands before the first carriage return, or all, where there is none (RFC 9112, section 3).
@@ -83,6 +83,7 @@ end_by_failure e = if e.is_taken || nat_lt 0 e.received then Reset else Refused
 abbrev pub IsOverBy : Fate → Exchange → End → Type 0
 IsOverBy Ended e end = IsEndedBy e end
 IsOverBy Failed e end = end ≡ end_by_failure e
+IsOverBy Late e end = end ≡ TimedOut
 IsOverBy Closed e end = end ≡ GivenUp
 
 -- the exchange that is over where one of this route ends so, if there is one

@@ -23,6 +23,8 @@ pub enum End {
     Refused,
     /// The connection failed.
     Reset,
+    /// The server was waited for too long.
+    TimedOut,
     /// The server ended the connection behind a part of a response.
     EndedEarly,
     /// The server ended the connection before a response.

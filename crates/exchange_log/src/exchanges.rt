@@ -25,6 +25,8 @@ pub enum Fate {
     Ended,
     /// It failed.
     Failed,
+    /// Its upstream was waited for too long.
+    Late,
     /// The gateway closed it.
     Closed,
 }
@@ -58,6 +60,7 @@ fn end_by(fate: Fate, exchange: &Exchange) -> End
     match fate {
         Fate::Ended => exchange.end(),
         Fate::Failed => exchange.fail(),
+        Fate::Late => End::TimedOut,
         Fate::Closed => End::GivenUp,
     }
 }
@@ -205,6 +208,14 @@ impl Exchanges {
             ≡ end_by_failure exchange) self.old.connections self.new.connections self.old.over.items self.new.over.items) }
     {
         self.finish(k, Fate::Failed)
+    }
+
+    /// A connection failed since its upstream was waited for too long. An `Err` says that memory was
+    /// refused.
+    pub fn time_out(&mut self, k: u32) -> Result<(), AllocError>
+        ensures { OnOk result (EndedAt k (λ _ end. end ≡ End.TimedOut) self.old.connections self.new.connections self.old.over.items self.new.over.items) }
+    {
+        self.finish(k, Fate::Late)
     }
 
     /// The gateway closes a connection, whose exchange is given up, if it has one. An `Err` says

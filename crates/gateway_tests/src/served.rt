@@ -171,6 +171,25 @@ fn services_take_their_turns_beside_others(rt: HostRuntime) -> Result<(), Fail> 
     Ok(())
 }
 
+/// What a service answers in its turns whose world failed before the first.
+fn turns_behind_a_failure(
+    alloc: Global,
+    world: &mut Quiet,
+) -> Result<[Result<Option<ServiceEnd>, ServeFault>; 2], AllocError> {
+    let mut service = Service::new(alloc, &no_routes(alloc))?;
+    service.fail();
+    Ok([turn(&mut service, world), turn(&mut service, world)])
+}
+
+#[test]
+fn a_world_that_fails_between_turns_ends_serving_it(rt: HostRuntime) -> Result<(), Fail> {
+    let mut world = leaving_at(1);
+    let answers = turns_behind_a_failure(rt.alloc(), &mut world)?;
+    assert_eq!(rt; answers, [Err(ServeFault::World), Err(ServeFault::World)]);
+    assert_eq!(rt; world.turn, 0);
+    Ok(())
+}
+
 /// A configuration with one route, for each request.
 fn one_route(alloc: Global) -> Result<Config, AllocError>
     ensures { IfOk result (λ config. IsServable (setup_of config)) }

@@ -295,6 +295,37 @@ fn a_ninth_connection_is_not_kept(rt: HostRuntime) -> Result<(), Fail> {
     Ok(())
 }
 
+/// The least idle connection of the route at place 7, of that at 4, and of that at 5.
+fn least_ones(upstreams: &Upstreams) -> (Option<u32>, Option<u32>, Option<u32>) {
+    (
+        upstreams.least_idle(7),
+        upstreams.least_idle(4),
+        upstreams.least_idle(5),
+    )
+}
+
+#[test]
+fn the_least_idle_connection_is_one_of_its_route(rt: HostRuntime) -> Result<(), Fail> {
+    let mut upstreams = Upstreams::new(rt.alloc());
+    open_nine(&mut upstreams)?;
+    for k in 1..10 {
+        upstreams.mark_heard(10 - k, ResponseStage::Keepable, 9);
+    }
+    assert_eq!(rt; least_ones(&upstreams), (Some(1), Some(4), None));
+    upstreams.give(1, 11, false, ResponsePassing::Streaming, None)?;
+    upstreams.close(4);
+    assert_eq!(rt; least_ones(&upstreams), (Some(2), Some(5), None));
+    upstreams.give(3, 13, false, ResponsePassing::Streaming, None)?;
+    upstreams.give(2, 15, false, ResponsePassing::Streaming, None)?;
+    upstreams.close(6);
+    upstreams.mark_heard(5, ResponseStage::Finished, 9);
+    assert_eq!(rt; least_ones(&upstreams), (Some(7), None, None));
+    upstreams.mark_heard(2, ResponseStage::Keepable, 9);
+    assert_eq!(rt; least_ones(&upstreams), (Some(2), None, None));
+    assert_eq!(rt; upstreams.idle(), [2, 7, 8, 9].as_slice());
+    Ok(())
+}
+
 /// The number of the connection that a request without a body is to go out on, which is kept.
 fn used_for(
     rt: &impl Abort,

@@ -1,6 +1,6 @@
 -- What became of sockets, and which connections go on, from call to call.
 use Rattle.std.proofs.Common.{◌≡◌, ◌<◌, ◌++◌, ◌∙◌, ℕ, zero, suc, List, [], ◌∷◌, length, map, set, get_or, Result, Ok, Err, inr, refl, sym, ap, subst, arith}
-use Rattle.std.specs.Prelude.{Bool, ◌||◌, ◌&&◌, ◌≤◌, ◌↔◌, not, IsTrue, Option, None, Some, true, false, if◌then◌else◌, is_some, IfSome, IfOk, IsErr}
+use Rattle.std.specs.Prelude.{Bool, ◌||◌, ◌&&◌, ◌≤◌, ◌↔◌, not, IsTrue, Option, None, Some, true, false, if◌then◌else◌, is_some, IfSome, IfOk, IsErr, ⊤}
 use Rattle.std.specs.Io.KnownBytes.{Consumes}
 use Rattle.std.specs.List.{remove}
 use Rattle.std.specs.declared.io.Error.{Error}
@@ -12,6 +12,8 @@ use Rattle.mio.specs.Interest.{is_readable}
 use Rattle.effects.specs.declared.events.Event.{Event}
 use Rattle.effects.specs.declared.events.Event.TheVariants.{Client, ClientEnd, ClientTook, Up, UpEnd, UpFailed, UpTook, Drain}
 use Rattle.driver.specs.declared.world.WorldFault.{WorldFault}
+use Rattle.driver.specs.Calls.Call.{Aside}
+use Rattle.sockets.specs.Moves.{Seen, Steps}
 use Rattle.sockets.specs.declared.side.Side.{Side}
 use Rattle.sockets.specs.declared.upstream.Upstream.{Upstream}
 use Rattle.mio.specs.declared.event.event.Event.{Event as Report}
@@ -404,6 +406,17 @@ module _ {S : Type 0} (left held : S → Option (List ℕ)) where
 
   pub moves_still : (c : Side S) (us : List (Upstream S)) → MovesOn left held (Ok None) c us c us
   moves_still c us = record { client_is = goes_still c; others = all_still us }
+
+  -- Nothing that is seen of it changed between calls.
+  pub steps_same : (answer : Result ⊤ WorldFault) (old new : Seen S) → new.client ≡ old.client → new.upstreams ≡ old.upstreams → new.addresses ≡ old.addresses → new.number ≡ old.number
+      → Steps left held (Aside answer) old new
+  steps_same answer old new client upstreams addresses number = record {
+    moved = subst (λ us. MovesOn left held (Ok None) old.client old.upstreams new.client us) (sym upstreams)
+        (subst (λ c. MovesOn left held (Ok None) old.client old.upstreams c old.upstreams) (sym client) (moves_still old.client old.upstreams));
+    rising = λ up. subst (λ (us : List (Upstream S)). AreRising us) (sym upstreams) up;
+    addresses = addresses;
+    number = number;
+  }
 
   -- Nothing was found, and then it looked on.
   pub moves_twice : (answer : Result (Option Event) WorldFault) (c c' c'' : Side S) (us vs ws : List (Upstream S)) → MovesOn left held (Ok None) c us c' vs → MovesOn left held answer c' vs c'' ws

@@ -163,12 +163,12 @@ module _ {S : Type 0} (left held : S → Option (List ℕ)) where
 
   -- What an output does to the client's socket and to the open connections, in the world of the
   -- client with this number. They are found by their numbers, which rise. A connection is opened to
-  -- the address of its route.
+  -- the address of its route, under a number that no open one has.
   abbrev pub Performs : ℕ → List SocketAddr → Output → Side S → List (Upstream S) → Side S → List (Upstream S) → Type 0
   Performs number addresses (Client octets) client upstreams client' upstreams' = Goes left held (put_news octets.items) client client'
       × (upstreams' ≡ upstreams)
   Performs number addresses (Open k route) client upstreams client' upstreams' = (client' ≡ client)
-      × Opens (IsNew number k (slice_get addresses route)) upstreams upstreams'
+      × Opens (IsNew number k (slice_get addresses route)) upstreams upstreams' × (AreRising upstreams → IsOpenNowhere k upstreams)
   Performs number addresses (Up k octets) client upstreams client' upstreams' = (client' ≡ client)
       × (AreRising upstreams → SendsTo k octets upstreams upstreams')
   Performs number addresses (Close k) client upstreams client' upstreams' = (client' ≡ client) × (AreRising upstreams → Closes k upstreams upstreams')

@@ -16,7 +16,9 @@ ghost use Rattle.std.specs.List.{Contains};
 use crate::buffer::Buffer;
 use crate::departure::leave_on;
 use crate::leaving::Leaving;
-use crate::queues::{CLIENT, heed, heed_all, join_ready, list, note_idle_all, place_of, take_next};
+use crate::queues::{
+    CLIENT, give_up, heed, heed_all, join_ready, list, note_idle_all, place_of, take_next,
+};
 use crate::reporting::{Reporting, number_in};
 use crate::rooms::room_of;
 use crate::side::Side;
@@ -118,6 +120,8 @@ impl<'a, N: Net + Clock, S: Wire> Sockets<'a, N, S> {
         rooms: &[(u32, usize)],
         idle: &[u32],
     ) -> Result<Option<Event>, WorldFault>
+        ensures addresses { self.new.addresses ≡ self.old.addresses }
+        ensures number { number_of_client self.new.reporting ≡ number_of_client self.old.reporting }
         ensures moves { MovesOn S.left S.held result self.old.client self.old.upstreams.items self.new.client self.new.upstreams.items }
         ensures fits { IfOk result (λ event. Fits rooms.now event) }
         ensures queued { OnOk result (HasQueued self.old → HasQueued self.new) }
@@ -145,6 +149,8 @@ impl<'a, N: Net + Clock, S: Wire> Sockets<'a, N, S> {
         rooms: &[(u32, usize)],
         idle: &[u32],
     ) -> Result<Option<Event>, WorldFault>
+        ensures addresses { self.new.addresses ≡ self.old.addresses }
+        ensures number { number_of_client self.new.reporting ≡ number_of_client self.old.reporting }
         ensures moves { MovesOn S.left S.held result self.old.client self.old.upstreams.items self.new.client self.new.upstreams.items }
         ensures fits { IfOk result (λ event. Fits rooms.now event) }
         ensures queued { OnOk result (HasQueued self.old → HasQueued self.new) }
@@ -166,6 +172,8 @@ impl<'a, N: Net + Clock, S: Wire> Sockets<'a, N, S> {
 
     /// In some turns what sockets took that wasn't told of, if they took some.
     fn tell_in_turn(&mut self) -> Option<Event>
+        ensures addresses { self.new.addresses ≡ self.old.addresses }
+        ensures number { number_of_client self.new.reporting ≡ number_of_client self.old.reporting }
         ensures moves { MovesOn S.left S.held (Ok result) self.old.client self.old.upstreams.items self.new.client self.new.upstreams.items }
         ensures fits { (rooms : List (ℕ × ℕ)) → Fits rooms result }
         ensures queued { HasQueued self.old → HasQueued self.new }
@@ -182,6 +190,8 @@ impl<'a, N: Net + Clock, S: Wire> Sockets<'a, N, S> {
     /// Looks at all sockets before the client is read again, where connections are idle: one that
     /// its server ended while it was idle is closed before a request comes that would go out on it.
     fn look_ahead(&mut self, idle: &[u32]) -> Result<(), WorldFault>
+        ensures addresses { self.new.addresses ≡ self.old.addresses }
+        ensures number { number_of_client self.new.reporting ≡ number_of_client self.old.reporting }
         ensures moves { MovesOn S.left S.held (Ok None) self.old.client self.old.upstreams.items self.new.client self.new.upstreams.items }
         ensures queued { OnOk result (HasQueued self.old → HasQueued self.new) }
         ensures heard { self.new.heard_at ≡ self.old.heard_at }
@@ -231,6 +241,8 @@ impl<'a, N: Net + Clock, S: Wire> Sockets<'a, N, S> {
         rooms: &[(u32, usize)],
         idle: &[u32],
     ) -> Result<Option<Event>, WorldFault>
+        ensures addresses { self.new.addresses ≡ self.old.addresses }
+        ensures number { number_of_client self.new.reporting ≡ number_of_client self.old.reporting }
         ensures moves { MovesOn S.left S.held result self.old.client self.old.upstreams.items self.new.client self.new.upstreams.items }
         ensures fits { IfOk result (λ event. Fits rooms.now event) }
         ensures queued { OnOk result (HasQueued self.old → HasQueued self.new) }
@@ -258,6 +270,8 @@ impl<'a, N: Net + Clock, S: Wire> Sockets<'a, N, S> {
         rooms: &[(u32, usize)],
         idle: &[u32],
     ) -> Result<Option<Event>, WorldFault>
+        ensures addresses { self.new.addresses ≡ self.old.addresses }
+        ensures number { number_of_client self.new.reporting ≡ number_of_client self.old.reporting }
         ensures moves { MovesOn S.left S.held result self.old.client self.old.upstreams.items self.new.client self.new.upstreams.items }
         ensures fits { IfOk result (λ event. Fits rooms.now event) }
         ensures queued { OnOk result (HasQueued self.old → HasQueued self.new) }
@@ -285,6 +299,8 @@ impl<'a, N: Net + Clock, S: Wire> Sockets<'a, N, S> {
         rooms: &[(u32, usize)],
         idle: &[u32],
     ) -> Result<Option<Event>, WorldFault>
+        ensures addresses { self.new.addresses ≡ self.old.addresses }
+        ensures number { number_of_client self.new.reporting ≡ number_of_client self.old.reporting }
         ensures moves { MovesOn S.left S.held result self.old.client self.old.upstreams.items self.new.client self.new.upstreams.items }
         ensures fits { IfOk result (λ event. Fits rooms.now event) }
         ensures queued { OnOk result (HadQueued number self.old → HasQueued self.new) }
@@ -310,6 +326,8 @@ impl<'a, N: Net + Clock, S: Wire> Sockets<'a, N, S> {
         number: u32,
         rooms: &[(u32, usize)],
     ) -> Result<Option<Event>, WorldFault>
+        ensures addresses { self.new.addresses ≡ self.old.addresses }
+        ensures number { number_of_client self.new.reporting ≡ number_of_client self.old.reporting }
         ensures moves { MovesOn S.left S.held result self.old.client self.old.upstreams.items self.new.client self.new.upstreams.items }
         ensures fits { IfOk result (λ event. Fits rooms.now event) }
         ensures queued { OnOk result (0 < number → HadQueued number self.old → HasQueued self.new) }
@@ -334,6 +352,8 @@ impl<'a, N: Net + Clock, S: Wire> Sockets<'a, N, S> {
 
     /// The event that a read of the client's socket gives, if it gives one.
     fn read_client(&mut self) -> Result<Option<Event>, WorldFault>
+        ensures addresses { self.new.addresses ≡ self.old.addresses }
+        ensures number { number_of_client self.new.reporting ≡ number_of_client self.old.reporting }
         ensures upstreams { self.new.upstreams ≡ self.old.upstreams }
         ensures moves { MovesOn S.left S.held result self.old.client self.old.upstreams.items self.new.client self.new.upstreams.items }
         ensures fits { IfOk result (λ event. (rooms : List (ℕ × ℕ)) → Fits rooms event) }
@@ -353,6 +373,8 @@ impl<'a, N: Net + Clock, S: Wire> Sockets<'a, N, S> {
     /// What a read of the client's socket gives: nothing where there is nothing to be read, or too
     /// much that was put out isn't told of as taken.
     fn read_of_client(&mut self) -> Result<Got, WorldFault>
+        ensures addresses { self.new.addresses ≡ self.old.addresses }
+        ensures number { number_of_client self.new.reporting ≡ number_of_client self.old.reporting }
         ensures upstreams { self.new.upstreams ≡ self.old.upstreams }
         ensures told { IfOk result (λ got. Goes S.left S.held (got_news got) self.old.client self.new.client) }
         ensures lost { OnErr result (Goes S.left S.held lost_news self.old.client self.new.client) }
@@ -380,6 +402,8 @@ impl<'a, N: Net + Clock, S: Wire> Sockets<'a, N, S> {
 
     /// The client joins the sockets of which something may be read, if something may.
     fn queue_client(&mut self) -> Result<(), WorldFault>
+        ensures addresses { self.new.addresses ≡ self.old.addresses }
+        ensures number { number_of_client self.new.reporting ≡ number_of_client self.old.reporting }
         ensures upstreams { self.new.upstreams ≡ self.old.upstreams }
         ensures client { self.new.client ≡ self.old.client }
         ensures writes { self.new.writes ≡ self.old.writes }
@@ -407,6 +431,8 @@ impl<'a, N: Net + Clock, S: Wire> Sockets<'a, N, S> {
     /// What sockets took that wasn't told of, if they took some: upstreams first, since each of
     /// them is told of once in a while.
     fn tell(&mut self) -> Option<Event>
+        ensures addresses { self.new.addresses ≡ self.old.addresses }
+        ensures number { number_of_client self.new.reporting ≡ number_of_client self.old.reporting }
         ensures moves { MovesOn S.left S.held (Ok result) self.old.client self.old.upstreams.items self.new.client self.new.upstreams.items }
         ensures fits { (rooms : List (ℕ × ℕ)) → Fits rooms result }
         ensures queued { HasQueued self.old → HasQueued self.new }
@@ -422,6 +448,8 @@ impl<'a, N: Net + Clock, S: Wire> Sockets<'a, N, S> {
 
     /// What an upstream took that wasn't told of, if one took some.
     fn tell_upstream(&mut self) -> Option<Event>
+        ensures addresses { self.new.addresses ≡ self.old.addresses }
+        ensures number { number_of_client self.new.reporting ≡ number_of_client self.old.reporting }
         ensures moves { MovesOn S.left S.held (Ok result) self.old.client self.old.upstreams.items self.new.client self.new.upstreams.items }
         ensures fits { (rooms : List (ℕ × ℕ)) → Fits rooms result }
         ensures queued { HasQueued self.old → HasQueued self.new }
@@ -443,6 +471,8 @@ impl<'a, N: Net + Clock, S: Wire> Sockets<'a, N, S> {
 
     /// What the client's socket took that wasn't told of, if it took some, and so many at least.
     fn tell_client(&mut self, least: u64) -> Option<Event>
+        ensures addresses { self.new.addresses ≡ self.old.addresses }
+        ensures number { number_of_client self.new.reporting ≡ number_of_client self.old.reporting }
         ensures moves { MovesOn S.left S.held (Ok result) self.old.client self.old.upstreams.items self.new.client self.new.upstreams.items }
         ensures fits { (rooms : List (ℕ × ℕ)) → Fits rooms result }
         ensures queued { HasQueued self.old → HasQueued self.new }
@@ -461,6 +491,8 @@ impl<'a, N: Net + Clock, S: Wire> Sockets<'a, N, S> {
     /// writes what waits for those that take octets again. A world that is told what is reported
     /// doesn't wait.
     fn look(&mut self, most: Option<Duration>) -> Result<(), WorldFault>
+        ensures addresses { self.new.addresses ≡ self.old.addresses }
+        ensures number { number_of_client self.new.reporting ≡ number_of_client self.old.reporting }
         ensures moves { MovesOn S.left S.held (Ok None) self.old.client self.old.upstreams.items self.new.client self.new.upstreams.items }
         ensures queued { OnOk result (HasQueued self.old → HasQueued self.new) }
         ensures heard { self.new.heard_at ≡ self.old.heard_at }
@@ -491,6 +523,8 @@ impl<'a, N: Net + Clock, S: Wire> Sockets<'a, N, S> {
     /// The client is read behind the others of which something may be read by now, wherever it
     /// stood among them.
     pub(crate) fn put_client_last(&mut self)
+        ensures addresses { self.new.addresses ≡ self.old.addresses }
+        ensures number { number_of_client self.new.reporting ≡ number_of_client self.old.reporting }
         ensures upstreams { self.new.upstreams ≡ self.old.upstreams }
         ensures client { self.new.client ≡ self.old.client }
         ensures writes { self.new.writes ≡ self.old.writes }
@@ -512,6 +546,8 @@ impl<'a, N: Net + Clock, S: Wire> Sockets<'a, N, S> {
     /// Notes what was reported of one socket, and writes what waits for it, if it takes octets
     /// again; what isn't of this client's is none of its.
     pub(crate) fn hear(&mut self, report: &Report) -> Result<(), WorldFault>
+        ensures addresses { self.new.addresses ≡ self.old.addresses }
+        ensures number { number_of_client self.new.reporting ≡ number_of_client self.old.reporting }
         ensures others { IsOfAnother report.now (number_of_client self.old.reporting) → (result ≡ Ok tt) × (self.new ≡ self.old) }
         ensures noted { IsOfClient report.now (number_of_client self.old.reporting)
             → Notes report.now self.old.client self.old.upstreams.items self.new.client self.new.upstreams.items }
@@ -544,9 +580,27 @@ impl<'a, N: Net + Clock, S: Wire> Sockets<'a, N, S> {
         note_idle_all(idle, now, most, &mut self.upstreams);
     }
 
+    /// An upstream is waited for no longer: it counts as failed, if it is open, unless something may
+    /// be read of it. The answer is whether it does by now.
+    pub(crate) fn give_up(&mut self, number: u32) -> Result<bool, WorldFault>
+        ensures addresses { self.new.addresses ≡ self.old.addresses }
+        ensures number { number_of_client self.new.reporting ≡ number_of_client self.old.reporting }
+        ensures moves { MovesOn S.left S.held (Ok None) self.old.client self.old.upstreams.items self.new.client self.new.upstreams.items }
+        ensures queued { OnOk result (HasQueued self.old → HasQueued self.new) }
+    {
+        give_up(
+            number,
+            &mut self.upstreams,
+            &mut self.ready,
+            &mut self.writes,
+        )
+    }
+
     /// Notes what was reported of the client's socket, and writes what waits for it, if it takes
     /// octets again.
     fn hear_of_client(&mut self, report: &Report) -> Result<(), WorldFault>
+        ensures addresses { self.new.addresses ≡ self.old.addresses }
+        ensures number { number_of_client self.new.reporting ≡ number_of_client self.old.reporting }
         ensures upstreams { self.new.upstreams ≡ self.old.upstreams }
         ensures noted { KeepsHeard (Some (noted report.now self.old.client)) (Some self.new.client) }
         ensures moves { MovesOn S.left S.held (Ok None) self.old.client self.old.upstreams.items self.new.client self.new.upstreams.items }
@@ -617,9 +671,12 @@ impl<'a, N: Net + Clock, S: Wire> Sockets<'a, N, S> {
     /// An `Err` says that memory was refused, or that the number is the client's or that of a
     /// connection that is open.
     fn open(&mut self, k: u32, route: u32) -> Result<(), WorldFault>
+        ensures addresses { self.new.addresses ≡ self.old.addresses }
+        ensures number { number_of_client self.new.reporting ≡ number_of_client self.old.reporting }
         ensures client { self.new.client ≡ self.old.client }
         ensures opens { OnOk result (Opens (IsNew (number_of_client self.old.reporting) k
             (slice_get self.old.addresses.now route)) self.old.upstreams.items self.new.upstreams.items) }
+        ensures fresh { OnOk result (AreRising self.old.upstreams.items → IsOpenNowhere k self.old.upstreams.items) }
         ensures err { OnErr result (self.new.upstreams.items ≡ self.old.upstreams.items) }
         ensures rising { AreRising self.old.upstreams.items → AreRising self.new.upstreams.items }
         ensures queued { OnOk result (HasQueued self.old → HasQueued self.new) }
@@ -655,6 +712,8 @@ impl<'a, N: Net + Clock, S: Wire> Sockets<'a, N, S> {
 
     /// Puts octets out to an upstream, if it is open.
     fn put(&mut self, k: u32, octets: &[u8]) -> Result<(), WorldFault>
+        ensures addresses { self.new.addresses ≡ self.old.addresses }
+        ensures number { number_of_client self.new.reporting ≡ number_of_client self.old.reporting }
         ensures client { self.new.client ≡ self.old.client }
         ensures err { OnErr result (Changes k (SendsFront S.left S.held octets.now) self.old.upstreams.items self.new.upstreams.items) }
         ensures sends { OnOk result (AreRising self.old.upstreams.items
@@ -688,6 +747,8 @@ impl<'a, N: Net + Clock, S: Wire> Sockets<'a, N, S> {
 
     /// Does what an output says.
     pub(crate) fn perform(&mut self, output: &Output) -> Result<(), WorldFault>
+        ensures addresses { self.new.addresses ≡ self.old.addresses }
+        ensures number { number_of_client self.new.reporting ≡ number_of_client self.old.reporting }
         ensures rising { AreRising self.old.upstreams.items → AreRising self.new.upstreams.items }
         ensures performs { OnOk result (Performs S.left S.held
             (number_of_client self.old.reporting) self.old.addresses.now output.now self.old.client self.old.upstreams.items self.new.client

@@ -148,6 +148,28 @@ fn note_idle<S: Wire>(number: u32, now: Instant, most: Duration, upstreams: &mut
     }
 }
 
+/// An upstream is waited for no longer: it counts as failed, if it is open, unless something may be
+/// read of it. The answer is whether it does by now.
+pub(crate) fn give_up<S: Wire>(
+    number: u32,
+    upstreams: &mut Vec<Upstream<S>>,
+    ready: &mut VecDeque<u32>,
+    writes: &mut VecDeque<u32>,
+) -> Result<bool, WorldFault>
+    ensures goes { AllGoOn S.left S.held no_news upstreams.old.items upstreams.new.items }
+    ensures ready { Grows ready.old.items ready.new.items }
+    ensures listed { OnOk result (AllListed 0 ready.old.items writes.old.items upstreams.old.items
+        → AllListed 0 ready.new.items writes.new.items upstreams.new.items) }
+{
+    let Some(place) = place_of(number, upstreams) else {
+        return Ok(false);
+    };
+    let upstream = &mut upstreams[place];
+    let has_failed = upstream.give_up();
+    list(upstream, ready, writes)?;
+    Ok(has_failed)
+}
+
 /// Lists an upstream where it belongs by now: among those of which something may be read, and among
 /// those that may have taken octets.
 pub(crate) fn list<S: Wire>(

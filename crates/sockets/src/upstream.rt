@@ -1,6 +1,6 @@
 //! The connections to upstreams.
 
-ghost use Rattle.std.specs.Prelude.{◌≡◌, ◌≢◌, ◌<◌, ◌↔◌, ◌&&◌, ◌||◌, [], false, not, length, Some, Ok, Err, IsTrue, IfOk, IsOkAnd, OnOk, OnErr, IfSome, IfNone, unwrap_or};
+ghost use Rattle.std.specs.Prelude.{◌≡◌, ◌≢◌, ◌<◌, ◌↔◌, ◌&&◌, ◌||◌, [], false, not, length, Some, Ok, Err, IsTrue, IfOk, IsOkAnd, OnOk, OnErr, IfSome, IfNone, unwrap_or, if◌then◌else◌, true};
 ghost use Rattle.std.specs.Duration.{as_nanos};
 ghost use Rattle.std.specs.declared.io.Error.{Error};
 ghost use Rattle.std.specs.declared.result.Result.{Result};
@@ -184,6 +184,21 @@ impl<S: Wire> Upstream<S> {
         if let Some(side) = &mut self.side {
             let _ = side.end();
         }
+    }
+
+    /// It is waited for no longer: it counts as failed, unless something may be read of it. The
+    /// answer is whether it does by now.
+    pub fn give_up(&mut self) -> bool
+        ensures gives { result ≡ not (may_be_ready self.old.side) }
+        ensures stands { (self.new.is_queued ≡ self.old.is_queued) × (self.new.is_listed ≡ self.old.is_listed) }
+        ensures given { self.new ≡ (if may_be_ready self.old.side then self.old else record self.old { broken = true; side = side_given_up self.old.side }) }
+        ensures goes { GoesOn S.left S.held no_news self.old self.new }
+    {
+        if self.may_be_ready() {
+            return false;
+        }
+        self.fail(ErrorKind::TimedOut);
+        true
     }
 
     /// Puts octets out. Where its socket failed they are dropped.

@@ -1,6 +1,6 @@
 //! The world of sockets.
 
-ghost use Rattle.std.specs.Prelude.{◌≡◌, ◌+◌, ◌<◌, ◌^◌, None, Some, Ok, Err, [], ◌∷◌, ◌++◌, false, true, not, List, IfOk, OnOk, OnErr, ◌&&◌, ◌||◌, is_ok, if◌then◌else◌};
+ghost use Rattle.std.specs.Prelude.{◌≡◌, ◌+◌, ◌<◌, ◌^◌, None, Some, Ok, Err, [], ◌∷◌, ◌++◌, false, true, not, List, Result, ⊤, IfOk, OnOk, OnErr, ◌&&◌, ◌||◌, is_ok, if◌then◌else◌};
 ghost use Rattle.model.specs.Logs.{Step};
 ghost use Rattle.effects.specs.Views.{output_of};
 ghost use Rattle.driver.specs.Worlds.{AddsEvent, AddsHanded, KeepsRooms, SaysOver, with_outputs};
@@ -10,10 +10,10 @@ ghost use Rattle.sockets.specs.Noting.{Notes};
 ghost use Rattle.sockets.specs.Tokens.{number_of_client, token_number, IsOfAnother, IsOfClient};
 ghost use Rattle.sockets.specs.Queues.{HasQueued, client_last, is_late, is_behind};
 ghost use Rattle.sockets.specs.Idle.{could_read};
-ghost use Rattle.sockets.specs.Moves.{MovesBy};
+ghost use Rattle.sockets.specs.Moves.{Steps, seen_in};
 ghost use Rattle.sockets.specs.Portions.{FitsPortion};
 ghost use Rattle.driver.specs.Calls.{HearsIdleFirst};
-ghost use Rattle.driver.specs.Calls.Call.{Asked, Applied};
+ghost use Rattle.driver.specs.Calls.Call.{Asked, Applied, Aside};
 ghost use Rattle.sockets.specs.Sides.{no_news, lost_news, IsBegun, Goes};
 
 use crate::buffer::Buffer;
@@ -140,6 +140,7 @@ impl<'a, N: Net + Clock, S: Wire> SocketWorld<'a, N, S> {
         ensures moved { self.new.has_moved ≡ self.old.has_moved }
         ensures ready { self.new.sockets.ready.items ≡ client_last self.old.sockets.ready.items }
         ensures behind { is_behind self.new.sockets ≡ false }
+        ensures moved_by { Steps S.left S.held (Aside (Ok tt)) (seen_in self.old.sockets) (seen_in self.new.sockets) }
     {
         self.sockets.put_client_last();
     }
@@ -176,6 +177,8 @@ impl<'a, N: Net + Clock, S: Wire> SocketWorld<'a, N, S> {
         ensures rising { AreRising self.old.sockets.upstreams.items → AreRising self.new.sockets.upstreams.items }
         ensures moves { MovesOn S.left S.held (Ok None) self.old.sockets.client self.old.sockets.upstreams.items self.new.sockets.client
             self.new.sockets.upstreams.items }
+        // It moves so between its calls.
+        ensures moved_by { Steps S.left S.held (Aside result) (seen_in self.old.sockets) (seen_in self.new.sockets) }
         ensures queued { OnOk result (HasQueued self.old.sockets → HasQueued self.new.sockets) }
         ensures quiet { self.new.is_quiet ≡ false }
     {
@@ -194,8 +197,25 @@ impl<'a, N: Net + Clock, S: Wire> SocketWorld<'a, N, S> {
             self.new.sockets.upstreams.items }
         ensures queued { HasQueued self.old.sockets → HasQueued self.new.sockets }
         ensures quiet { self.new.is_quiet ≡ self.old.is_quiet }
+        ensures moved_by { Steps S.left S.held (Aside (Ok tt)) (seen_in self.old.sockets) (seen_in self.new.sockets) }
     {
         self.sockets.note_idle(idle, now, most);
+    }
+
+    /// A connection is waited for no longer: it counts as failed, if it is open, unless something
+    /// may be read of it, and that is told in its turn. The answer is whether it does by now. An
+    /// `Err` says that memory was refused: then the client is lost.
+    pub fn give_up(&mut self, k: u32) -> Result<bool, WorldFault>
+        ensures calls { self.new.calls ≡ self.old.calls }
+        ensures failures { self.new.failures ≡ self.old.failures }
+        ensures moves { MovesOn S.left S.held (Ok None) self.old.sockets.client self.old.sockets.upstreams.items self.new.sockets.client
+            self.new.sockets.upstreams.items }
+        ensures queued { OnOk result (HasQueued self.old.sockets → HasQueued self.new.sockets) }
+        ensures quiet { self.new.is_quiet ≡ false }
+        ensures moved_by { (answer : Result ⊤ WorldFault) → Steps S.left S.held (Aside answer) (seen_in self.old.sockets) (seen_in self.new.sockets) }
+    {
+        self.is_quiet = false;
+        self.sockets.give_up(k)
     }
 
     /// Ends what the client sends: what came of it before is still read, and then its end, as where
@@ -206,6 +226,8 @@ impl<'a, N: Net + Clock, S: Wire> SocketWorld<'a, N, S> {
         ensures client { Goes S.left S.held no_news self.old.sockets.client self.new.sockets.client }
         ensures stays { self.new.sockets.client ≡ record self.old.sockets.client { socket = self.new.sockets.client.socket } }
         ensures upstreams { self.new.sockets.upstreams ≡ self.old.sockets.upstreams }
+        ensures moved_by { Steps S.left S.held (Aside (Ok tt)) (seen_in self.old.sockets) (seen_in self.new.sockets) }
+        ensures queued { HasQueued self.old.sockets → HasQueued self.new.sockets }
     {
         self.sockets.client.end()
     }
@@ -241,7 +263,7 @@ impl<'a, N: Net + Clock, S: Wire> World for SocketWorld<'a, N, S> {
     ghost use Rattle.sockets.specs.Performed.{no_log, none_handed};
     ghost use Rattle.sockets.specs.Queues.{HasQueued};
     ghost use Rattle.sockets.specs.Idle.{could_read};
-    ghost use Rattle.sockets.specs.Moves.{MovesBy};
+    ghost use Rattle.sockets.specs.Moves.{Steps, seen_in};
     ghost use Rattle.sockets.specs.Tokens.{number_of_client};
 
     ghost calls = { λ world. world.calls };
@@ -256,8 +278,7 @@ impl<'a, N: Net + Clock, S: Wire> World for SocketWorld<'a, N, S> {
 
     ghost keeps_rooms = { λ _. true };
 
-    ghost moves = { λ old call new. MovesBy S.left S.held (number_of_client old.sockets.reporting) old.sockets.addresses.now call old.sockets.client
-        old.sockets.upstreams.items new.sockets.client new.sockets.upstreams.items };
+    ghost moves = { λ old call new. Steps S.left S.held call (seen_in old.sockets) (seen_in new.sockets) };
 
     // Its marks say the truth of what stands in its queues.
     ghost hears_idle_first = { λ world. HasQueued world.sockets };
@@ -285,8 +306,7 @@ impl<'a, N: Net + Clock, S: Wire> World for SocketWorld<'a, N, S> {
         ensures moves { MovesOn S.left S.held (told_by result) self.old.sockets.client self.old.sockets.upstreams.items self.new.sockets.client
             self.new.sockets.upstreams.items }
         ensures fits { IfOk (told_by result) (λ event. Fits rooms.now event) }
-        ensures moved_by { MovesBy S.left S.held (number_of_client self.old.sockets.reporting) self.old.sockets.addresses.now (Asked rooms.now idle.now result)
-            self.old.sockets.client self.old.sockets.upstreams.items self.new.sockets.client self.new.sockets.upstreams.items }
+        ensures moved_by { Steps S.left S.held (Asked rooms.now idle.now result) (seen_in self.old.sockets) (seen_in self.new.sockets) }
         ensures idle_first { HasQueued self.old.sockets → IfOk result (λ next. HearsIdleFirst idle.now next
             (λ k. could_read self.new.sockets.upstreams.items k) self.old.sockets.heard_at self.new.sockets.heard_at self.new.sockets.looks) }
         ensures hears_on { OnOk result (HasQueued self.old.sockets → HasQueued self.new.sockets) }
@@ -331,8 +351,7 @@ impl<'a, N: Net + Clock, S: Wire> World for SocketWorld<'a, N, S> {
             self.new.sockets.client self.new.sockets.upstreams.items) }
         ensures leaves { OnErr result (Leaves S.left S.held output.now self.old.sockets.client self.old.sockets.upstreams.items self.new.sockets.client
             self.new.sockets.upstreams.items) }
-        ensures moved_by { MovesBy S.left S.held (number_of_client self.old.sockets.reporting) self.old.sockets.addresses.now (Applied output.now result)
-            self.old.sockets.client self.old.sockets.upstreams.items self.new.sockets.client self.new.sockets.upstreams.items }
+        ensures moved_by { Steps S.left S.held (Applied output.now result) (seen_in self.old.sockets) (seen_in self.new.sockets) }
         ensures hears_on { OnOk result (HasQueued self.old.sockets → HasQueued self.new.sockets) }
     {
         let applied = self.sockets.perform(output);

@@ -24,7 +24,7 @@ abbrev pub idle_in : List Connection → List ℕ
 idle_in cs = idle_ones (lives cs)
 
 -- but one
-abbrev beside : ℕ → List Connection → List ℕ
+abbrev pub beside : ℕ → List Connection → List ℕ
 beside k cs = others k (idle_in cs)
 
 -- it has none of the numbers below it
@@ -39,17 +39,17 @@ abbrev pub more : Bool → ℕ → List ℕ → List ℕ
 more idle n js = if idle then n ∷ js else js
 
 -- one of another number stays
-but_other : (k : ℕ) (idle : Bool) (n : ℕ) (js : List ℕ) → (n == k) ≡ false → others k (more idle n js) ≡ more idle n (others k js)
+pub but_other : (k : ℕ) (idle : Bool) (n : ℕ) (js : List ℕ) → (n == k) ≡ false → others k (more idle n js) ≡ more idle n (others k js)
 but_other k true n js other = ap (λ b. if not b then n ∷ others k js else others k js) other
 but_other k false n js other = refl
 
 -- and one of its number goes
-but_own : (k : ℕ) (idle : Bool) (n : ℕ) (js : List ℕ) → (n == k) ≡ true → others k (more idle n js) ≡ others k js
+pub but_own : (k : ℕ) (idle : Bool) (n : ℕ) (js : List ℕ) → (n == k) ≡ true → others k (more idle n js) ≡ others k js
 but_own k true n js own = ap (λ b. if not b then n ∷ others k js else others k js) own
 but_own k false n js own = refl
 
 -- where it isn't open, all are beside it
-all_beside : (k : ℕ) (cs : List Connection) → find number_of k cs ≡ None → beside k cs ≡ idle_in cs
+pub all_beside : (k : ℕ) (cs : List Connection) → find number_of k cs ≡ None → beside k cs ≡ idle_in cs
 all_beside k [] none = refl
 all_beside k (c ∷ cs) none = by (c.live.k == k) refl none (all_beside k cs)
   where
@@ -179,15 +179,20 @@ among_others k top (c ∷ cs) below is = by (c.live.k == k) refl is (among_other
 
 -- ---- what one is that was marked or given
 
--- it is idle as its response says
+-- it is found with its response
+pub marked_found : (k : ℕ) (progress : theory_requests.Answer) (cs : List Connection) (c : Connection) → find number_of k cs ≡ Some c → find number_of k (map (marked_at k progress) cs) ≡ Some (record c { live = record c.live { answer = progress } })
+marked_found k progress cs c there =
+    find_map number_of (marked_at k progress) (λ x. refl) k cs
+    ∙ ap (option_map (marked_at k progress)) there
+    ∙ ap (λ b. Some (let n : Connection = record c { live = record c.live { answer = if b then progress else c.live.answer } } in n)) (eq-eqb c.live.k k (found_key number_of k cs c there))
+
+-- and is idle as that says
 pub marked_idle : (k : ℕ) (progress : theory_requests.Answer) (cs : List Connection) (o : Option Connection) → find number_of k cs ≡ o → is_idle_one (find number_of k (map (marked_at k progress) cs)) ≡ (is_some o && is_idle progress)
 marked_idle k progress cs None none = ap is_idle_one (find_map number_of (marked_at k progress) (λ c. refl) k cs ∙ ap (option_map (marked_at k progress)) none)
-marked_idle k progress cs (Some c) there =
-    ap is_idle_one (find_map number_of (marked_at k progress) (λ c. refl) k cs ∙ ap (option_map (marked_at k progress)) there)
-    ∙ ap (λ b. is_idle (if b then progress else c.live.answer)) (eq-eqb c.live.k k (found_key number_of k cs c there))
+marked_idle k progress cs (Some c) there = ap is_idle_one (marked_found k progress cs c there)
 
 -- it isn't where it was given to a stream
-given_idle : (k stream : ℕ) (answer : Answer) (cs : List Connection) (o : Option Connection) → find number_of k cs ≡ o → is_idle_one (find number_of k (map (given_at k stream answer) cs)) ≡ false
+pub given_idle : (k stream : ℕ) (answer : Answer) (cs : List Connection) (o : Option Connection) → find number_of k cs ≡ o → is_idle_one (find number_of k (map (given_at k stream answer) cs)) ≡ false
 given_idle k stream answer cs None none = ap is_idle_one (find_map number_of (given_at k stream answer) (λ c. refl) k cs ∙ ap (option_map (given_at k stream answer)) none)
 given_idle k stream answer cs (Some c) there =
     ap is_idle_one (find_map number_of (given_at k stream answer) (λ c. refl) k cs ∙ ap (option_map (given_at k stream answer)) there)
@@ -240,6 +245,10 @@ module _ (old new : List Connection) (idle : List ℕ) (were : idle ≡ idle_num
     -- so many are
     pub count_beside : length (others k idle) ≡ idle_beside k (lives (reverse old))
     count_beside = ap length are_beside ∙ length-reverse (beside k (reverse old))
+
+    -- where it isn't idle
+    pub idle_stays : (top : ℕ) → AreBelow top (reverse old) → is_idle_one (find number_of k (reverse old)) ≡ false → idle ≡ others k idle
+    idle_stays top below off = were ∙ ap reverse (sym (beside_all k top (reverse old) below off)) ∙ sym are_beside
 
     -- where it was closed
     pub idle_closed : reverse new ≡ without number_of k (reverse old) → others k idle ≡ idle_numbers new

@@ -2,8 +2,10 @@ pub mod Lists
 pub mod Requests
 pub mod Openings
 pub mod Numbers
+pub mod Rising
 pub mod Idling
-pub mod Searching
+pub mod Keys
+pub mod LeastKey
 pub mod Changing
 pub mod Waiting
 pub mod Passed

@@ -1,6 +1,6 @@
--- Numbers that rise: without one, with one among them, and the first that passes a test.
-use Rattle.std.proofs.Common.{◌≡◌, ℕ, ◌<◌, ◌≤◌, ◌==◌, nat_lt, if◌then◌else◌, Bool, true, false, not, List, [], ◌∷◌, ◌++◌, length, get_or, drop, Some, None, refl, sym, ap, ◌∙◌, subst, inl, inr, drop-cons, arith}
-use Rattle.std.specs.Prelude.{Option, zero, suc, reverse}
+-- Numbers that rise: without one, and with one among them.
+use Rattle.std.proofs.Common.{◌≡◌, ℕ, ◌<◌, ◌≤◌, ◌==◌, nat_lt, if◌then◌else◌, Bool, true, false, not, List, [], ◌∷◌, ◌++◌, length, get_or, refl, sym, ap, ◌∙◌, subst, inl, inr, arith}
+use Rattle.std.specs.Prelude.{zero, suc, reverse}
 use Rattle.std.specs.List.{insert, remove}
 use Rattle.std.proofs.lemmas.Bool.{lt-ltb, le-ltb, eq-eqb, ne_eqb, cases_lt}
 use Rattle.std.proofs.lemmas.List.{reverse-append, append-nil}
@@ -100,34 +100,3 @@ inserted k (x ∷ xs) zero le before behind = ap (λ b. if b then x ∷ among k 
 inserted k (x ∷ xs) (suc place) le before behind =
     ap (λ ys. x ∷ ys) (inserted k xs place (omega (arith, le)) (λ i lt. before (suc i) (omega (arith, lt))) (λ lt. behind (omega (arith, lt))))
     ∙ ap (λ b. if b then x ∷ among k xs else k ∷ x ∷ xs) (sym (lt-ltb x k (before 0 (omega arith))))
-
--- ---- the first that passes a test
-
-abbrev pub first_of : (ℕ → Bool) → List ℕ → Option ℕ
-first_of p [] = None
-first_of p (x ∷ xs) = if p x then Some x else first_of p xs
-
-abbrev pub or_else : Option ℕ → Option ℕ → Option ℕ
-or_else None o = o
-or_else (Some x) o = Some x
-
--- the last only where none before it does
-pub first_last : (p : ℕ → Bool) (xs : List ℕ) (y : ℕ) → first_of p (xs ++ y ∷ []) ≡ or_else (first_of p xs) (if p y then Some y else None)
-first_last p [] y = refl
-first_last p (x ∷ xs) y = by (p x) (first_last p xs y)
-  where
-    by : (b : Bool) → first_of p (xs ++ y ∷ []) ≡ or_else (first_of p xs) (if p y then Some y else None) → (if b then Some x else first_of p (xs ++ y ∷ [])) ≡ or_else (if b then Some x else first_of p xs) (if p y then Some y else None)
-    by true rest = refl
-    by false rest = rest
-
--- of those from a place on
-module _ (p : ℕ → Bool) (xs : List ℕ) (i : ℕ) (lt : i < length xs) where
-  first : first_of p (drop i xs) ≡ (if p (get_or xs i 0) then Some (get_or xs i 0) else first_of p (drop (suc i) xs))
-  first = ap (first_of p) (drop-cons xs i 0 lt)
-
-  -- it is the one there, or else one behind
-  pub first_here : p (get_or xs i 0) ≡ true → first_of p (drop i xs) ≡ Some (get_or xs i 0)
-  first_here own = first ∙ ap (λ b. if b then Some (get_or xs i 0) else first_of p (drop (suc i) xs)) own
-
-  pub first_behind : p (get_or xs i 0) ≡ false → first_of p (drop i xs) ≡ first_of p (drop (suc i) xs)
-  first_behind other = first ∙ ap (λ b. if b then Some (get_or xs i 0) else first_of p (drop (suc i) xs)) other

@@ -1,5 +1,5 @@
 -- Open connections.
-use Rattle.std.specs.Prelude.{ℕ, nat_lt, suc, ◌+◌, ◌<◌, ◌==◌, ◌^◌, Bool, false, not, ◌&&◌, if◌then◌else◌, List, []}
+use Rattle.std.specs.Prelude.{ℕ, nat_lt, suc, ◌+◌, ◌<◌, ◌==◌, ◌^◌, Bool, false, not, if◌then◌else◌, List, []}
 use Rattle.std.specs.Prelude.{◌∷◌, map, filter, length, reverse, Option, Some, None}
 use Rattle.std.specs.List.{AllPairs}
 use Rattle.h1_reader.specs.declared.reader.Place.TheVariants as place
@@ -89,11 +89,6 @@ heard_at most k heard cs = map (marked_at k (answer_by most (idle_beside k (live
 abbrev pub is_idle_one : Option Connection → Bool
 is_idle_one None = false
 is_idle_one (Some c) = is_idle c.live.answer
-
--- and is of the route
-abbrev pub is_idle_one_of : ℕ → Option Connection → Bool
-is_idle_one_of route None = false
-is_idle_one_of route (Some c) = is_idle c.live.answer && c.live.route == route
 
 -- how many are idle
 abbrev pub idle_count : List Connection → ℕ

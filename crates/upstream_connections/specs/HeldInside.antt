@@ -11,6 +11,7 @@ use Rattle.upstream_connections.specs.declared.connection.UpstreamConnection.The
 use Rattle.upstream_connections.specs.declared.held.Held.TheInside.{Inside as HeldInside}
 use Rattle.upstream_connections.specs.declared.held.Way.{Way}
 use Rattle.upstream_connections.specs.declared.held.Way.TheVariants as way
+use Rattle.upstream_connections.specs.declared.idle.Idle.{Idle}
 use Rattle.upstream_connections.specs.declared.progress.Progress.{Progress}
 use Rattle.upstream_connections.specs.declared.upstreams.Upstreams.TheInside.{Inside as UpstreamsInside}
 
@@ -20,6 +21,10 @@ in_number number = 0
 
 abbrev pub in_numbers : ArrayVec ℕ → ℕ
 in_numbers numbers = 0
+
+-- nor in the two lists of those that are idle
+abbrev pub in_idle : Idle → ℕ
+in_idle = λ record { numbers = numbers; keys = keys }. in_numbers numbers + in_numbers keys
 
 abbrev pub in_progress : Progress → ℕ
 in_progress progress = 0
@@ -54,4 +59,4 @@ in_held = λ record { id = id; way = way }. in_number id + in_way way
 -- in all of them: the requests and the connections, the newest first
 abbrev pub in_upstreams : UpstreamsInside → ℕ
 in_upstreams = λ record { alloc = alloc; held = held; connections = connections; idle = idle; count = count }.
-    in_numbers idle + in_number count + held_of_all (reverse held.items) + answers_in (reverse connections.items)
+    in_idle idle + in_number count + held_of_all (reverse held.items) + answers_in (reverse connections.items)

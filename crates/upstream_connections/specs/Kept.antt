@@ -1,5 +1,6 @@
 -- What is kept of requests and of upstream connections, and of what nothing is said where the gateway rests: what is due is an answer.
-use Rattle.std.specs.Prelude.{◌≡◌, ℕ, suc, Bool, ◌||◌, List, [], ◌∷◌, map, reverse}
+use Rattle.std.specs.Prelude.{◌≡◌, ◌≤◌, ℕ, suc, Bool, ◌||◌, List, [], ◌∷◌, map, reverse}
+use Rattle.model.specs.Limits.{most_streams}
 use Rattle.request_rules.specs.Heads.{HeadParts}
 use Rattle.h1_writer.specs.Sending.{Stage, Sending}
 use Rattle.upstream_response.specs.declared.answer.ResponsePassing.{ResponsePassing}
@@ -9,6 +10,7 @@ use Rattle.theory_requests.specs.State as theory_requests
 use Rattle.theory_requests.specs.State.{Held, held_with, Due, is_whole, unless_whole, waits_from, to_open}
 use Rattle.theory_requests.specs.State.Way.{Waiting, Going}
 use Rattle.upstream_connections.specs.Connections.{Connection, lives, fresh, opened, given_at, idle_numbers, AreBelow}
+use Rattle.upstream_connections.specs.Keys.{idle_keys}
 
 -- The streams whose requests aren't whole, the open connections, and how many were opened.
 pub record State : Type 0 where
@@ -24,11 +26,13 @@ with_due s due = record { held = s.held; live = lives s.live; due = due; count =
 abbrev pub nothing : State
 nothing = record { held = []; live = []; count = 0 }
 
--- What holds of them: no stream is held twice, numbers rise to that of the last that was opened, and those that are idle have these numbers.
-pub record AreKept (held : List Held) (connections : List Connection) (idle : List ℕ) (count : ℕ) : Type 0 where
+-- What holds of them: no stream is held twice, no more were opened than streams may be, numbers rise to that of the last that was opened, and those that are idle have these numbers, and these keys.
+pub record AreKept (held : List Held) (connections : List Connection) (idle keys : List ℕ) (count : ℕ) : Type 0 where
   pub apart : AreApart (reverse held)
+  pub few : count ≤ most_streams
   pub below : AreBelow (suc count) (reverse connections)
   pub idle_are : idle ≡ idle_numbers connections
+  pub keys_are : keys ≡ idle_keys (reverse connections)
 
 -- a connection was opened for a stream, by this route, and what its request's text waits for goes out there
 abbrev pub opened_for : ℕ → ℕ → Bool → ResponsePassing → Stage → State → State

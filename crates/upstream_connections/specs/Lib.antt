@@ -5,6 +5,7 @@ pub mod Ways
 pub mod Progress
 pub mod Requests
 pub mod Connections
+pub mod Keys
 pub mod Kept
 pub mod Places
 pub mod HeldInside

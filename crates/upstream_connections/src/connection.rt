@@ -1,9 +1,10 @@
 //! An open connection to an upstream.
 
-ghost use Rattle.std.specs.Prelude.{◌≡◌, suc, ◌+◌, ◌<◌, ◌≤◌, ◌==◌, ◌^◌, ◌&&◌, [], MatchBool};
+ghost use Rattle.std.specs.Prelude.{◌≡◌, suc, ◌+◌, ◌<◌, ◌≤◌, ◌==◌, ◌^◌, [], Some, MatchBool};
 ghost use Rattle.theory_requests.specs.Lines.{is_idle};
 ghost use Rattle.theory_requests.specs.Lines.Answer.{Pending};
 ghost use Rattle.upstream_connections.specs.Connections.{opened, works_for};
+ghost use Rattle.upstream_connections.specs.Keys.{idle_route};
 ghost use Rattle.upstream_connections.specs.Progress.{answer_of};
 ghost use Rattle.h1_reader.specs.Standing.{Stands};
 
@@ -106,11 +107,15 @@ impl UpstreamConnection {
         self.progress.is_idle()
     }
 
-    /// Whether it is idle and was opened by the route at this place.
-    pub(crate) fn is_idle_of(&self, route: u32) -> bool
-        ensures { result ≡ (is_idle self.now.live.answer && self.now.live.route == route) }
+    /// The place of its route, if it is idle.
+    pub(crate) fn idle_route(&self) -> Option<u32>
+        ensures { result ≡ idle_route (Some self.now) }
     {
-        self.is_idle() && self.route == route
+        if self.is_idle() {
+            Some(self.route)
+        } else {
+            None
+        }
     }
 
     /// How its response is passed on.

@@ -1,13 +1,15 @@
 //! Open connections, the oldest first, found by their numbers.
 
 ghost use Rattle.std.specs.Prelude.{◌≡◌, suc, ◌+◌, ◌<◌, ◌≤◌, ◌^◌, map, reverse, Some, None, MatchOption, IfSome, IfNone};
-ghost use Rattle.theory_requests.specs.Lines.{find, without, least_idle};
-ghost use Rattle.upstream_connections.specs.Connections.{number_of, works_for, lives, marked_at, given_at};
-ghost use Rattle.upstream_connections.specs.Connections.{put_at, taken_at, is_idle_one, is_idle_one_of, idle_numbers};
-ghost use Rattle.upstream_connections.specs.Connections.{AreRising, IsOpenAt, IsOpenNowhere};
+ghost use Rattle.theory_requests.specs.Lines.{find, without};
+ghost use Rattle.upstream_connections.specs.Connections.{number_of, works_for, marked_at, given_at};
+ghost use Rattle.upstream_connections.specs.Connections.{put_at, taken_at, others, idle_numbers};
+ghost use Rattle.upstream_connections.specs.Keys.{idle_keys, idle_route};
+ghost use Rattle.upstream_connections.specs.Connections.{AreBelow, AreRising, IsOpenAt, IsOpenNowhere};
 ghost use Rattle.upstream_connections.specs.Progress.{answer_of};
 
 use crate::connection::UpstreamConnection;
+use crate::idle::Idle;
 use crate::progress::Progress;
 use upstream_response::Answer;
 
@@ -47,44 +49,44 @@ pub fn of_stream(connections: &[UpstreamConnection], id: u32) -> Option<&Upstrea
     None
 }
 
-/// Whether the connection with this number is open, idle and of the route at this place.
-fn is_idle_of(connections: &[UpstreamConnection], k: u32, route: u32) -> bool
+/// The place of the route of the connection with this number, if that is open and idle.
+fn idle_route(connections: &[UpstreamConnection], k: u32) -> Option<u32>
     requires { AreRising connections.now }
-    ensures { result ≡ is_idle_one_of route (find number_of k (reverse connections.now)) }
+    ensures { result ≡ idle_route (find number_of k (reverse connections.now)) }
 {
     match find(connections, k) {
-        Some(connection) => connection.is_idle_of(route),
-        None => false,
+        Some(connection) => connection.idle_route(),
+        None => None,
     }
 }
 
-/// The idle connection of the route at this place that was opened first, if there is one, where
-/// those that are idle have these numbers.
-pub fn least_idle(connections: &[UpstreamConnection], idle: &[u32], route: u32) -> Option<u32>
-    requires rising { AreRising connections.now }
-    requires are { idle.now ≡ idle_numbers connections.now }
-    ensures { result ≡ least_idle route (lives (reverse connections.now)) }
+/// The connection with this number isn't among those that are idle, if it was.
+pub fn strike(connections: &[UpstreamConnection], idle: &mut Idle, k: u32)
+    requires below { AreBelow (2 ^ 32) (reverse connections.now) }
+    requires numbers { idle.old.numbers.items ≡ idle_numbers connections.now }
+    requires keys { idle.old.keys.items ≡ idle_keys (reverse connections.now) }
+    ensures numbers { idle.new.numbers.items ≡ others k idle.old.numbers.items }
+    ensures keys { idle.new.keys.items ≡ idle_keys (without number_of k (reverse connections.now)) }
 {
-    for number in idle.iter() {
-        if is_idle_of(connections, *number, route) {
-            return Some(*number);
-        }
+    if let Some(route) = idle_route(connections, k) {
+        idle.strike(route, k);
     }
-    None
 }
 
-/// The response of the connection with this number is so far; whether the connection is open, and idle with it.
-pub fn mark(connections: &mut Vec<UpstreamConnection>, k: u32, progress: Progress) -> bool
+/// The response of the connection with this number is so far; the place of its route, if the
+/// connection is open, and idle with it.
+pub fn mark(connections: &mut Vec<UpstreamConnection>, k: u32, progress: Progress) -> Option<u32>
     requires { AreRising connections.old.items }
     ensures marked { reverse connections.new.items ≡ map (marked_at k (answer_of progress)) (reverse connections.old.items) }
-    ensures idle { result ≡ is_idle_one (find number_of k (reverse connections.new.items)) }
+    ensures idle { result ≡ idle_route (find number_of k (reverse connections.new.items)) }
 {
     match place_of(connections, k) {
         Some(place) => {
-            connections[place].mark(progress);
-            progress.is_idle()
+            let connection = &mut connections[place];
+            connection.mark(progress);
+            connection.idle_route()
         }
-        None => false,
+        None => None,
     }
 }
 

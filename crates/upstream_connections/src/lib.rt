@@ -5,6 +5,8 @@
 //! answers it.
 #![tactic(auto)]
 
+mod by_number;
+mod by_route;
 mod connection;
 mod connections;
 mod held;

@@ -13,10 +13,10 @@ ghost use Rattle.upstream_connections.specs.Kept.{nothing, opened_for, given_for
 ghost use Rattle.upstream_connections.specs.Progress.{heard_of};
 
 use crate::connection::UpstreamConnection;
+use crate::connections;
 use crate::held::{self, Due, Held, OutgoingRequest, Way};
-use crate::progress::{IDLE_PLACES, ResponseStage};
-use crate::{connections, idle};
-use arrayvec::ArrayVec;
+use crate::idle::Idle;
+use crate::progress::ResponseStage;
 use h1_writer::Text;
 use hpack_table::Field;
 use request_buffer::{Begun, BufferedRequest, Going};
@@ -32,8 +32,7 @@ pub struct Upstreams {
     alloc: Global,
     held: Vec<Held>,
     connections: Vec<UpstreamConnection>,
-    /// The numbers of those that are idle, which rise.
-    idle: ArrayVec<u32, IDLE_PLACES>,
+    idle: Idle,
     count: u32,
 }
 
@@ -45,7 +44,7 @@ impl Model for Upstreams {
 
     ghost view = { λ u. record { held = reverse u.held.items; live = reverse u.connections.items; count = u.count } };
 
-    ghost invariant = { λ u. AreKept u.held.items u.connections.items u.idle.items u.count };
+    ghost invariant = { λ u. AreKept u.held.items u.connections.items u.idle.numbers.items u.idle.keys.items u.count };
 }
 
 impl Upstreams {
@@ -60,7 +59,7 @@ impl Upstreams {
             alloc,
             held: Vec::new(alloc),
             connections: Vec::new(alloc),
-            idle: ArrayVec::new(),
+            idle: Idle::new(),
             count: 0,
         }
     }
@@ -196,19 +195,19 @@ impl Upstreams {
         Ok(k)
     }
 
-    /// The idle connection of the route at this place that was opened first, if there is one. No
-    /// connection is looked at that isn't idle.
+    /// The idle connection of the route at this place that was opened first, if there is one. It
+    /// is searched by halves, and no connection of another route is passed by.
     pub fn least_idle(&self, route: u32) -> Option<u32>
         ensures { result ≡ least_idle route (lives self.now.live) }
     {
-        connections::least_idle(&self.connections, self.idle.as_slice(), route)
+        self.idle.least_of(route)
     }
 
     /// The numbers of the connections that are idle, by rising number.
     pub fn idle(&self) -> &[u32]
         ensures { result.now ≡ reverse (idle_ones (lives self.now.live)) }
     {
-        self.idle.as_slice()
+        self.idle.numbers.as_slice()
     }
 
     /// An open connection, which is idle, is given to a stream, whose request's method is HEAD or
@@ -230,7 +229,7 @@ impl Upstreams {
     {
         let answer = Answer::new(self.alloc, to_head, passing);
         held::hold_rest(&mut self.held, stream, k, rest)?;
-        idle::strike(&mut self.idle, k);
+        connections::strike(&self.connections, &mut self.idle, k);
         connections::give(&mut self.connections, k, stream, answer);
         Ok(())
     }
@@ -264,10 +263,10 @@ impl Upstreams {
     pub fn mark_heard(&mut self, k: u32, verdict: ResponseStage, most_idle: u8)
         ensures { self.new ≡ record self.old { live = heard_at most_idle k (heard_of verdict) self.old.live } }
     {
-        idle::strike(&mut self.idle, k);
-        let progress = verdict.progress(most_idle, self.idle.len());
-        if connections::mark(&mut self.connections, k, progress) {
-            idle::enter(&mut self.idle, k);
+        connections::strike(&self.connections, &mut self.idle, k);
+        let progress = verdict.progress(most_idle, self.idle.numbers.len());
+        if let Some(route) = connections::mark(&mut self.connections, k, progress) {
+            self.idle.enter(route, k);
         }
     }
 
@@ -287,7 +286,7 @@ impl Upstreams {
     pub fn close(&mut self, k: u32)
         ensures { self.new ≡ record self.old { held = map (drop_from k) self.old.held; live = without number_of k self.old.live } }
     {
-        idle::strike(&mut self.idle, k);
+        connections::strike(&self.connections, &mut self.idle, k);
         held::drop_from(&mut self.held, k);
         connections::remove(&mut self.connections, k);
     }

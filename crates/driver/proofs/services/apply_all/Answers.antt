@@ -1,7 +1,7 @@
 use Rattle.std.proofs.Common.{◌≡◌, ◌+◌, take, drop, ◌∙◌, ◌++◌, ◌∷◌, [], sym, ap, subst, Some, refl}
 use Rattle.effects.specs.Views.{outputs_of}
 use Rattle.driver.proofs.Adding.{cut_outputs}
-use Rattle.driver.specs.Calls.{AppliesTo}
+use Rattle.driver.specs.Calls.{AreWhole, AppliesTo}
 use Rattle.driver.specs.Worlds.{with_outputs}
 use Rattle.driver.proofs.Calling.{with_none, with_more, one_more, applies_none, applies_more, applies_failed}
 use Rattle.driver.proofs.services.apply_all.Goals as goal
@@ -33,7 +33,7 @@ loop-output-preserved g c =
       hears_on = λ h. c.in_default.ensures.hears_on (i.hears_on h);
       log = λ before step is. c.in_default.ensures.log before _ (i.log before step is) ∙ ap (λ s. Some (before ++ s ∷ [])) (with_more step (take n outs) c.output-item.result ∙ ap (λ os. with_outputs step (outputs_of os)) (sym more));
       applies = λ begun calls before step along is.
-          subst (λ os. AppliesTo g.W.World.moves g.W.World.hears_idle_first g.W.World.could_read g.W.World.heard_at g.W.World.looks begun calls (before ++ with_outputs step (outputs_of os) ∷ []) c.apply.new.self) (sym more)
+          subst (λ os. AppliesTo g.W.World.moves g.W.World.hears_idle_first g.W.World.could_read g.W.World.heard_at g.W.World.looks AreWhole begun calls (before ++ with_outputs step (outputs_of os) ∷ []) c.apply.new.self) (sym more)
           (applies_more _ _ _ _ _ begun _ _ calls before step (take n outs) c.output-item.result _ (record { moved = c.in_default.ensures.moves; idle_first = λ h. tt }) (i.applies begun calls before step along is));
     }
 
@@ -50,6 +50,6 @@ returns-in-Err-clause-applies_front g c = λ begun calls before step along is. (
   outputs_of (take c.loop-output.output-index c.args.outputs.now),
   outputs_of (drop c.loop-output.output-index c.args.outputs.now),
   cut_outputs c.loop-output.output-index c.args.outputs.now,
-  applies_failed _ _ _ _ _ begun _ _ calls _ _ c.in-Err.fault (record { moved = c.in-Err.ensures.moves; idle_first = λ h. tt })
+  applies_failed _ _ _ _ _ begun _ _ calls before (with_outputs step (outputs_of (take c.loop-output.output-index c.args.outputs.now))) _ c.in-Err.fault (record { moved = c.in-Err.ensures.moves; idle_first = λ h. tt })
       (c.loop-output.invariant.applies begun calls before step along is),
 )

@@ -1,7 +1,7 @@
 use Rattle.std.proofs.Common.{◌≡◌, List, [], ◌∷◌, ◌++◌, take, Some}
 use Rattle.model.specs.Logs.{Step}
 use Rattle.effects.specs.Views.{outputs_of}
-use Rattle.driver.specs.Calls.{Call, Along, Moves, AppliesTo, told}
+use Rattle.driver.specs.Calls.{Call, Along, Moves, AreWhole, AppliesTo, told}
 use Rattle.driver.specs.Worlds.{with_outputs}
 use Rattle.driver.proofs.services.apply_all.Given as goal
 
@@ -16,5 +16,5 @@ invariant-loop-output g l = record {
   log : (before : List Step) (step : Step) → g.W.World.log l.fn.world ≡ Some (before ++ step ∷ []) → g.W.World.log l.world ≡ Some (before ++ with_outputs step (outputs_of (take l.output-index l.outputs)) ∷ []);
   applies : (begun : g.row.W.Denot) (calls : List Call) (before : List Step) (step : Step)
       → Along (Moves g.W.World.moves g.W.World.hears_idle_first g.W.World.could_read g.W.World.heard_at g.W.World.looks (g.W.World.hears_idle_first begun)) begun calls l.fn.world → told calls ≡ Some (before ++ step ∷ [])
-      → AppliesTo g.W.World.moves g.W.World.hears_idle_first g.W.World.could_read g.W.World.heard_at g.W.World.looks begun calls (before ++ with_outputs step (outputs_of (take l.output-index l.outputs)) ∷ []) l.world;
+      → AppliesTo g.W.World.moves g.W.World.hears_idle_first g.W.World.could_read g.W.World.heard_at g.W.World.looks AreWhole begun calls (before ++ with_outputs step (outputs_of (take l.output-index l.outputs)) ∷ []) l.world;
 }

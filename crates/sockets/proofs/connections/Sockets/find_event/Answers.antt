@@ -53,7 +53,7 @@ returns-in-Some-clause-within g c = subst (FitsPortion _) c.in-Some.is (others_f
 
 pub returns-in-Some-2-clause-within : goal.returns-in-Some-2-clause-within
 returns-in-Some-2-clause-within g c =
-    rw (← c.in-Some-2.is) (subst (λ portion. FitsPortion portion c.in_ok-event.field-0) c.tell_client.ensures.portion c.in_ok-event.ensures.within)
+    subst (FitsPortion _) c.in-Some-2.is (subst (λ portion. FitsPortion portion c.in_ok-event.field-0) c.tell_client.ensures.portion c.in_ok-event.ensures.within)
 
 pub returns-in-Some-tell_upstream-clause-within : goal.returns-in-Some-tell_upstream-clause-within
 returns-in-Some-tell_upstream-clause-within g c =

@@ -35,7 +35,7 @@ returns-clause-moves g c =
 
 pub returns-in-Some-2-clause-within : goal.returns-in-Some-2-clause-within
 returns-in-Some-2-clause-within g c =
-    rw (← c.in-Some-2.is) (subst (λ portion. FitsPortion portion c.in_ok-event-2.field-0) c.find_aside.ensures.portion c.in_ok-event-2.ensures.within)
+    subst (FitsPortion _) c.in-Some-2.is (subst (λ portion. FitsPortion portion c.in_ok-event-2.field-0) c.find_aside.ensures.portion c.in_ok-event-2.ensures.within)
 
 pub returns-clause-within : goal.returns-clause-within
 returns-clause-within g c =

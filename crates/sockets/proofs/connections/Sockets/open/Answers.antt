@@ -54,3 +54,6 @@ returns-clause-queued g c = λ before.
       all_are = subst (AllListed 0 ready writes) (sym c.in_ok-insert.ensures.items)
           (subst (λ vs. AllListed 0 ready writes (insert vs place upstream)) c.deref.ensures.value (opened_listed ready writes seen place upstream c.args.k number up facts.bound nowhere point listed all));
     }
+
+pub returns-clause-fresh : goal.returns-clause-fresh
+returns-clause-fresh g c = (c.may_open.ensures c.if-not-may_open.false).1

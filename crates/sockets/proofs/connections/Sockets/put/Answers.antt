@@ -1,12 +1,18 @@
-use Rattle.std.proofs.Common.{◌≡◌, ◌<◌, ◌∙◌, inr, length, get_or, subst, sym, ap}
+use Rattle.std.proofs.Common.{◌≡◌, ◌<◌, ◌∙◌, inl, inr, length, get_or, refl, subst, sym, ap}
 use Rattle.sockets.specs.declared.upstream.Upstream.{Upstream}
 use Rattle.sockets.specs.Sides.{SendsFront}
-use Rattle.sockets.specs.Performed.{Sends}
+use Rattle.sockets.specs.Performed.{AreRising, IsOpenNowhere, Sends}
 use Rattle.sockets.specs.Queues.{IsMarked}
 use Rattle.sockets.proofs.Performing.{one_changed, listed, front_listed, on_ok, on_err, ok_then}
 use Rattle.sockets.proofs.Queueing.{listed_at, listed_still, one_listed, marked_same, client_still}
 use Rattle.sockets.proofs.Rising.{rising_set}
 use Rattle.sockets.proofs.connections.Sockets.put.Goals as goal
+
+pub returns-in_default-clause-sends : goal.returns-in_default-clause-sends
+returns-in_default-clause-sends g c =
+    let us = c.args.self.now.upstreams.items in
+    let absent : AreRising us → IsOpenNowhere c.args.k us = rw (← c.deref.ensures.value) c.in_default.ensures.absent in
+    λ up. inl (absent up, refl)
 
 pub returns-clause-sends : goal.returns-clause-sends
 returns-clause-sends g c =

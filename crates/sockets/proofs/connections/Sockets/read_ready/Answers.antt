@@ -8,7 +8,7 @@ use Rattle.sockets.proofs.Queueing.{queued_in}
 use Rattle.sockets.proofs.connections.Sockets.read_ready.Goals as goal
 
 pub loop-init : goal.loop-init
-loop-init g c = record { moves = moves_still _ _ _ _; queued = λ all. all; heard = λ all. refl; portion = refl }
+loop-init g c = record { moves = moves_still _ _ _ _; queued = λ all. all; heard = λ all. refl; addresses = refl; number = refl; portion = refl }
 
 pub returns-in_err-event-clause-moves : goal.returns-in_err-event-clause-moves
 returns-in_err-event-clause-moves g c =
@@ -29,6 +29,8 @@ loop-preserved g c =
       moves = moves_twice _ _ (Ok None) _ _ _ _ us _ c.loop.invariant.moves moved;
       queued = λ before. c.in_ok-event.ensures.queued (queued_in c.loop.self.ready.items _ _ _ _ _ c.in-Some.ensures.stand (c.loop.invariant.queued before));
       heard = λ before. quiet c.args.idle.now c.in_ok-event.event _ _ _ _ none (c.in_ok-event.ensures.first (none_left c.in-Some.number c.take_next.new.ready.items c.loop.self.writes.items c.loop.self.is_client_queued c.loop.self.client c.loop.self.upstreams.items c.args.idle.now (queued_in c.loop.self.ready.items _ _ _ _ _ c.in-Some.ensures.stand (c.loop.invariant.queued before)) c.in-Some.ensures.first)) ∙ c.loop.invariant.heard before;
+      addresses = c.in_ok-event.ensures.addresses ∙ c.loop.invariant.addresses;
+      number = c.in_ok-event.ensures.number ∙ c.loop.invariant.number;
       portion = c.read.ensures.portion ∙ c.loop.invariant.portion;
     }
 

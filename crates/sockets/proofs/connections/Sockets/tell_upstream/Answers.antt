@@ -8,7 +8,7 @@ use Rattle.sockets.proofs.connections.Sockets.tell_upstream.Goals as goal
 use Rattle.sockets.proofs.connections.Sockets.tell_upstream.Goals.{in-Some+else-count-gt0, in_default}
 
 pub loop-init : goal.loop-init
-loop-init g c = record { moves = moves_still _ _ _ _; heard = refl; portion = refl; queued = λ all. all }
+loop-init g c = record { moves = moves_still _ _ _ _; heard = refl; queued = λ all. all; addresses = refl; number = refl; portion = refl }
 
 pub returns-then-count-gt0-clause-moves : goal.returns-then-count-gt0-clause-moves
 returns-then-count-gt0-clause-moves g c =
@@ -41,11 +41,13 @@ loop-preserved g c = elim c.match-place_of.branch [
       (record {
         moves = moves_twice _ _ (Ok None) _ _ _ _ us _ c.loop.invariant.moves (moves_untold _ _ w.tell-count.result _ us w.in-Some.place w.tell-count.new.self first w.if-count-gt0.false within goes);
         heard = c.loop.invariant.heard;
+        addresses = c.loop.invariant.addresses;
+        number = c.loop.invariant.number;
         portion = c.loop.invariant.portion;
         queued = λ before. told_queued _ _ _ c.in_ok-k.k _ _ us w.in-Some.place first w.tell-count.new.self c.in_ok-k.ensures.items w.index_mut.ensures.value within found w.tell-count.ensures.told (c.loop.invariant.queued before);
       })
   | in_default w ↦
       let us = c.loop.self.upstreams.items in
       let absent : AreRising us → IsOpenNowhere c.in_ok-k.k us = rw (← c.deref.ensures.value) w.in_default.ensures.absent in
-      rw w.self-is (record { moves = c.loop.invariant.moves; heard = c.loop.invariant.heard; portion = c.loop.invariant.portion; queued = λ before. untold_queued _ _ _ c.in_ok-k.k _ _ us c.in_ok-k.ensures.items absent (c.loop.invariant.queued before) })
+      rw w.self-is (record { moves = c.loop.invariant.moves; heard = c.loop.invariant.heard; addresses = c.loop.invariant.addresses; number = c.loop.invariant.number; portion = c.loop.invariant.portion; queued = λ before. untold_queued _ _ _ c.in_ok-k.k _ _ us c.in_ok-k.ensures.items absent (c.loop.invariant.queued before) })
 ]

@@ -2,6 +2,7 @@ use Rattle.std.proofs.Common.{◌≡◌}
 use Rattle.std.specs.Prelude.{None, Ok}
 use Rattle.sockets.specs.Performed.{MovesOn}
 use Rattle.sockets.specs.Queues.{HasQueued}
+use Rattle.sockets.specs.Tokens.{number_of_client}
 use Rattle.sockets.proofs.connections.Sockets.tell_upstream.Given as goal
 
 abbrev pub invariant-loop : goal.invariant-loop
@@ -10,4 +11,6 @@ invariant-loop g l = record {
   heard : l.self.heard_at ≡ l.fn.self.heard_at;
   portion : l.self.buffer.portion ≡ l.fn.self.buffer.portion;
   queued : HasQueued l.fn.self → HasQueued l.self;
+  addresses : l.self.addresses ≡ l.fn.self.addresses;
+  number : number_of_client l.self.reporting ≡ number_of_client l.fn.self.reporting;
 }

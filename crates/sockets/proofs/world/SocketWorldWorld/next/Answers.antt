@@ -1,3 +1,4 @@
+use Rattle.std.proofs.Common.{refl}
 use Rattle.sockets.proofs.Moving.{moves_rise}
 use Rattle.sockets.proofs.Events.{fits_keeps}
 use Rattle.sockets.proofs.world.SocketWorldWorld.next.Goals as goal
@@ -13,3 +14,30 @@ returns-in-Err-clause-rising g c = moves_rise _ _ _ _ _ _ _ c.find_next.ensures.
 
 pub returns-after-self-clause-rooms : goal.returns-after-self-clause-rooms
 returns-after-self-clause-rooms g c = λ always. fits_keeps c.args.rooms.now _ (rw c.in-Ok-Some.field-0-is at c.in-Ok-Some.ensures.fits)
+
+pub returns-after-self-clause-moved_by : goal.returns-after-self-clause-moved_by
+returns-after-self-clause-moved_by g c = record {
+  moved = (rw c.in-Ok-Some.field-0-is at c.in-Ok-Some.ensures.moves, rw c.in-Ok-Some.field-0-is at c.in-Ok-Some.ensures.fits);
+  rising = moves_rise _ _ _ _ _ _ _ c.find_next.ensures.moves;
+  addresses = rw c.find_next.ensures.addresses refl;
+  number = c.find_next.ensures.number;
+}
+
+pub returns-in-Ok-None-clause-moved_by : goal.returns-in-Ok-None-clause-moved_by
+returns-in-Ok-None-clause-moved_by g c = record {
+  moved = (rw c.in-Ok-None.field-0-is at c.in-Ok-None.ensures.moves, tt);
+  rising = moves_rise _ _ _ _ _ _ _ c.find_next.ensures.moves;
+  addresses = rw c.find_next.ensures.addresses refl;
+  number = c.find_next.ensures.number;
+}
+
+pub returns-in-Err-clause-moved_by : goal.returns-in-Err-clause-moved_by
+returns-in-Err-clause-moved_by g c = record {
+  moved = (c.in-Err.ensures.moves, tt);
+  rising = moves_rise _ _ _ _ _ _ _ c.find_next.ensures.moves;
+  addresses = rw c.find_next.ensures.addresses refl;
+  number = c.find_next.ensures.number;
+}
+
+pub returns-after-self-clause-idle_first : goal.returns-after-self-clause-idle_first
+returns-after-self-clause-idle_first g c = rw c.in-Ok-Some.field-0-is at c.in-Ok-Some.ensures.first

@@ -5,6 +5,7 @@ use Rattle.upstream_response.specs.Waiting.{Answer}
 use Rattle.upstream_connections.specs.Connections.{Connection, no_connection, answer_at, IsOpenAt, AreBelow, AreRising}
 use Rattle.upstream_connections.proofs.Openings.{found, not_found, answer_there, below_changed}
 use Rattle.upstream_connections.proofs.Idling.{idle_same}
+use Rattle.upstream_connections.proofs.Keys.{keys_same}
 use Rattle.upstream_connections.proofs.upstreams.Upstreams.answer_mut.Goals as goal
 
 -- the connections with another answer at the place
@@ -20,8 +21,10 @@ invariant_of-self-lent c = λ w.
     let there : c.index_mut.result.now ≡ slice_index_or cs c.in-Some.place no_connection = get_or_read cs c.in-Some.place c.index_mut.result.now is.within c.index_mut.ensures.value no_connection in
     let now = behind cs (suc c.self.inside.count, c.self.invariant.below) c.args.k c.in-Some.place is c.index_mut.result.now there w in record {
       apart = c.self.invariant.apart;
+      few = c.self.invariant.few;
       below = subst (AreBelow (suc c.self.inside.count)) (sym now) (below_changed (answer_at c.args.k w) (λ x. refl) (suc c.self.inside.count) (reverse cs) c.self.invariant.below);
-      idle_are = idle_same cs (slice_set cs c.in-Some.place (let n : Connection = record c.index_mut.result.now { answer = w } in n)) c.self.inside.idle.items c.self.invariant.idle_are (answer_at c.args.k w) (λ x. refl) now;
+      idle_are = idle_same cs (slice_set cs c.in-Some.place (let n : Connection = record c.index_mut.result.now { answer = w } in n)) c.self.inside.idle.numbers.items c.self.invariant.idle_are (answer_at c.args.k w) (λ x. refl) now;
+      keys_are = keys_same cs (slice_set cs c.in-Some.place (let n : Connection = record c.index_mut.result.now { answer = w } in n)) c.self.inside.idle.keys.items c.self.invariant.keys_are (answer_at c.args.k w) (λ x. refl) now;
     }
 
 pub returns-in-Some : goal.returns-in-Some

@@ -1,7 +1,7 @@
 use Rattle.std.specs.Prelude.{reverse}
-use Rattle.std.proofs.Common.{sym, ap, ◌∙◌}
+use Rattle.std.proofs.Common.{ap, ◌∙◌}
 use Rattle.theory_requests.specs.Lines.{idle_ones}
-use Rattle.upstream_connections.specs.Connections.{lives, idle_numbers}
+use Rattle.upstream_connections.specs.Connections.{lives}
 use Rattle.upstream_connections.specs.Kept.{State}
 use Rattle.upstream_connections.proofs.upstreams.Upstreams.idle.Goals as goal
 

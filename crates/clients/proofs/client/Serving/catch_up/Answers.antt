@@ -1,0 +1,7 @@
+use Rattle.std.proofs.Math.Logic.{∥∥₁_map}
+use Rattle.clients.proofs.Serving.{goes_aside}
+use Rattle.clients.proofs.client.Serving.catch_up.Goals as goal
+
+pub invariant_of-self-clause-stands : goal.invariant_of-self-clause-stands
+invariant_of-self-clause-stands g c =
+    ∥∥₁_map c.args.self.now.stands (goes_aside g.S.Socket.left g.S.Socket.held _ _ _ c.catch_up.ensures.moved_by c.catch_up.ensures.queued)

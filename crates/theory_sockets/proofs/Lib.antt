@@ -1,0 +1,5 @@
+pub mod Telling
+pub mod Passing
+pub mod Connecting
+pub mod Serving
+mod Examples

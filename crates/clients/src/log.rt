@@ -8,6 +8,7 @@ use crate::entrance::Why;
 use driver::{ServeFault, ServiceEnd};
 use exchange_log::{End, Exchange, Over};
 use gateway::Passing;
+use h2gw_setup::stamps::Stamp;
 use std::net::SocketAddr;
 use std::time::Instant;
 
@@ -24,13 +25,15 @@ pub fn say_refused(rt: &HostRuntime, why: Why) {
     let _ = rt.eprintln(line);
 }
 
-/// Says how long ago a client was accepted, how serving it ended, and how many streams it opened.
+/// Says, with the time, how long ago a client was accepted, how serving it ended, and how many
+/// streams it opened.
 pub fn say_ended(rt: &HostRuntime, client: &Client<'_>, outcome: &Outcome) {
+    let stamp = Stamp::now(rt);
     let millis = millis_since(rt, client.came);
     let words = words_of(outcome);
     let (number, address, opened) = (client.number, client.address, client.opened);
     let _ = eprintln!(rt;
-        "client {number} {address}: accepted {millis} ms ago, {words}, streams {opened}"
+        "{stamp} client {number} {address}: accepted {millis} ms ago, {words}, streams {opened}"
     );
 }
 
@@ -70,9 +73,9 @@ pub fn say_exchanges(
     }
 }
 
-/// Says of an exchange of a client that is over with which upstream it was, what the request line
-/// is, which status came, how many octets went out and came, how long it took, and how it ended. No
-/// field is said.
+/// Says, with the time, of an exchange of a client that is over with which upstream it was, what
+/// the request line is, which status came, how many octets went out and came, how long it took, and
+/// how it ended. No field is said.
 fn say_over(common: &Common<'_>, number: u32, address: SocketAddr, over: &Over) {
     let Some(upstream) = common.setting.addresses.get(over.route as usize) else {
         return;
@@ -81,6 +84,7 @@ fn say_over(common: &Common<'_>, number: u32, address: SocketAddr, over: &Over) 
     let Ok(line) = str::from_utf8(exchange.line()) else {
         return;
     };
+    let stamp = Stamp::now(common.rt);
     let millis = millis_of(common.rt, exchange);
     let status = exchange.status().unwrap_or(0);
     let (sent, received) = (exchange.sent(), exchange.received());
@@ -91,7 +95,7 @@ fn say_over(common: &Common<'_>, number: u32, address: SocketAddr, over: &Over) 
         ""
     };
     let _ = eprintln!(common.rt;
-        "client {number} {address}: {upstream} {line}: {status}, {sent} octets out, {received} in, {millis} ms, {words}{by}"
+        "{stamp} client {number} {address}: {upstream} {line}: {status}, {sent} octets out, {received} in, {millis} ms, {words}{by}"
     );
 }
 

@@ -25,21 +25,18 @@ module _ {S : Type 0} (left held : S → Option (List ℕ)) where
   aside_none seen = record { calls = []; along = refl; asides = All-nil IsAside }
 
   module _ {N Stream Listener : Type 0} where
-    abbrev World' : Type 0
-    World' = Sockets N S Stream Listener
-
     -- It begins.
-    pub begins : (setup : Setup) (service : Served) (now : World') → Begins setup service → IsNew (seen_in now) → IsServed left held service now
-    begins setup service now begins new = record {
+    pub begins : (setup : Setup) (service : Served) (now : Sockets N S Stream Listener) → Begins setup service → IsNew (seen_in now) → IsServed left held service now
+    begins setup service now first new = record {
       setup = setup;
       begun = now;
       is_new = new;
-      stands = subst (λ o. StandsBy left held o setup now service now) (sym begins.going) (runs_none (moves left held) hears reads heard_at looks setup now service.gateway service.rooms begins.no_rooms begins.stands);
+      stands = subst (λ o. StandsBy left held o setup now service now) (sym first.going) (runs_none (moves left held) hears reads heard_at looks setup now service.gateway service.rooms first.no_rooms first.stands);
     }
 
     -- ---- between calls
 
-    ended_aside : (setup : Setup) (outcome : Result ServiceEnd ServeFault) (begun old new : World') (call : Call) → IsAside call → Steps left held call (seen_in old) (seen_in new)
+    ended_aside : (setup : Setup) (outcome : Result ServiceEnd ServeFault) (begun old new : Sockets N S Stream Listener) (call : Call) → IsAside call → Steps left held call (seen_in old) (seen_in new)
         → HasEnded left held setup outcome begun old → HasEnded left held setup outcome begun new
     ended_aside setup outcome begun old new call is step e = record {
       before = e.before;
@@ -47,18 +44,18 @@ module _ {S : Type 0} (left held : S → Option (List ℕ)) where
       aside = record { calls = call ∷ e.aside.calls; along = (seen_in old, e.aside.along, step); asides = All-cons IsAside call e.aside.calls is e.aside.asides };
     }
 
-    stands_aside : (o : Option (Result ServiceEnd ServeFault)) (setup : Setup) (begun old new : World') (service : Served) → Steps left held (Aside (Ok tt)) (seen_in old) (seen_in new) → (hears old → hears new)
+    stands_aside : (o : Option (Result ServiceEnd ServeFault)) (setup : Setup) (begun old new : Sockets N S Stream Listener) (service : Served) → Steps left held (Aside (Ok tt)) (seen_in old) (seen_in new) → (hears old → hears new)
         → StandsBy left held o setup begun service old → StandsBy left held o setup begun service new
     stands_aside None setup begun old new service step on r =
         runs_aside (moves left held) hears reads heard_at looks setup begun old new service.gateway service.rooms false tt (record { moved = step; idle_first = λ h. tt }) on r
     stands_aside (Some outcome) setup begun old new service step on e = ended_aside setup outcome begun old new (Aside (Ok tt)) tt step e
 
     -- It moved on.
-    pub goes_aside : (service : Served) (old new : World') → Steps left held (Aside (Ok tt)) (seen_in old) (seen_in new) → (hears old → hears new) → IsServed left held service old → IsServed left held service new
+    pub goes_aside : (service : Served) (old new : Sockets N S Stream Listener) → Steps left held (Aside (Ok tt)) (seen_in old) (seen_in new) → (hears old → hears new) → IsServed left held service old → IsServed left held service new
     goes_aside service old new step on s =
         record { setup = s.setup; begun = s.begun; is_new = s.is_new; stands = stands_aside service.outcome s.setup s.begun old new service step on s.stands }
 
-    stands_failed : (o : Option (Result ServiceEnd ServeFault)) (setup : Setup) (begun old new : World') (service service' : Served) (fault : WorldFault) → Steps left held (Aside (Err fault)) (seen_in old) (seen_in new)
+    stands_failed : (o : Option (Result ServiceEnd ServeFault)) (setup : Setup) (begun old new : Sockets N S Stream Listener) (service service' : Served) (fault : WorldFault) → Steps left held (Aside (Err fault)) (seen_in old) (seen_in new)
         → StandsBy left held o setup begun service old → StandsBy left held (Some (unwrap_or o (Err World))) setup begun service' new
     stands_failed None setup begun old new service service' fault step r = record {
       before = new;
@@ -68,7 +65,7 @@ module _ {S : Type 0} (left held : S → Option (List ℕ)) where
     stands_failed (Some outcome) setup begun old new service service' fault step e = ended_aside setup outcome begun old new (Aside (Err fault)) tt step e
 
     -- It failed.
-    pub fails_aside : (service service' : Served) (old new : World') (fault : WorldFault) → service' ≡ record service { outcome = Some (unwrap_or service.outcome (Err World)) }
+    pub fails_aside : (service service' : Served) (old new : Sockets N S Stream Listener) (fault : WorldFault) → service' ≡ record service { outcome = Some (unwrap_or service.outcome (Err World)) }
         → Steps left held (Aside (Err fault)) (seen_in old) (seen_in new) → IsServed left held service old → IsServed left held service' new
     fails_aside service service' old new fault is step s = record {
       setup = s.setup;
@@ -80,12 +77,12 @@ module _ {S : Type 0} (left held : S → Option (List ℕ)) where
 
     -- ---- a turn, which a world with these sockets inside it took
 
-    module _ {V : Type 0} (inner : V → World') (outer : World' → V) (is : (w : World') → inner (outer w) ≡ w) where
+    module _ {V : Type 0} (inner : V → Sockets N S Stream Listener) (outer : Sockets N S Stream Listener → V) (is : (w : Sockets N S Stream Listener) → inner (outer w) ≡ w) where
       abbrev Leaves : Setup → Result (Option ServiceEnd) ServeFault → V → V → Served → Type 0
       Leaves setup result begun new service =
           TurnLeaves (λ old call new. moves left held (inner old) call (inner new)) (λ v. hears (inner v)) (λ v. reads (inner v)) (λ v. heard_at (inner v)) (λ v. looks (inner v)) setup result begun new service.gateway service.rooms
 
-      stands_behind : (setup : Setup) (begun : World') (service : Served) (new : V) (result : Result (Option ServiceEnd) ServeFault) → Leaves setup result (outer begun) new service
+      stands_behind : (setup : Setup) (begun : Sockets N S Stream Listener) (service : Served) (new : V) (result : Result (Option ServiceEnd) ServeFault) → Leaves setup result (outer begun) new service
           → StandsBy left held (outcome_of result) setup begun service (inner new)
       stands_behind setup begun service new (Ok None) leaves = runs_in (moves left held) hears reads heard_at looks inner outer is setup false begun new service.gateway service.rooms leaves
       stands_behind setup begun service new (Ok (Some ended)) leaves = record {
@@ -122,7 +119,7 @@ module _ {S : Type 0} (left held : S → Option (List ℕ)) where
         turned s = turned_by service.outcome refl s
 
     -- the same, with the worlds first
-    pub taken : {V : Type 0} (old new : V) (inner : V → World') (outer : World' → V) (is : (w : World') → inner (outer w) ≡ w) (service service' : Served) (result : Result (Option ServiceEnd) ServeFault)
+    pub taken : {V : Type 0} (old new : V) (inner : V → Sockets N S Stream Listener) (outer : Sockets N S Stream Listener → V) (is : (w : Sockets N S Stream Listener) → inner (outer w) ≡ w) (service service' : Served) (result : Result (Option ServiceEnd) ServeFault)
         → outer (inner old) ≡ old
         → (service.outcome ≡ None → (setup : Setup) (begun : V) → RunsThrough (moves left held) hears reads heard_at looks inner setup false begun old service.gateway service.rooms
         → TurnLeaves (λ a call b. moves left held (inner a) call (inner b)) (λ v. hears (inner v)) (λ v. reads (inner v)) (λ v. heard_at (inner v)) (λ v. looks (inner v)) setup result begun new service'.gateway service'.rooms)
@@ -132,7 +129,7 @@ module _ {S : Type 0} (left held : S → Option (List ℕ)) where
 
     -- ---- what it comes to
 
-    told_by : (o : Option (Result ServiceEnd ServeFault)) (service : Served) (now : World') (setup : Setup) (begun : World') → IsNew (seen_in begun) → StandsBy left held o setup begun service now → IsTold left held now
+    told_by : (o : Option (Result ServiceEnd ServeFault)) (service : Served) (now : Sockets N S Stream Listener) (setup : Setup) (begun : Sockets N S Stream Listener) → IsNew (seen_in begun) → StandsBy left held o setup begun service now → IsTold left held now
     told_by None service now setup begun new r = record {
       setup = setup;
       outcome = Ok Turns;
@@ -153,7 +150,7 @@ module _ {S : Type 0} (left held : S → Option (List ℕ)) where
       aside = e.aside;
     }
 
-    pub told : (service : Served) (now : World') → IsServed left held service now → IsTold left held now
+    pub told : (service : Served) (now : Sockets N S Stream Listener) → IsServed left held service now → IsTold left held now
     told service now s = told_by service.outcome service now s.setup s.begun s.is_new s.stands
 
   -- A world that moves as sockets do was served from its beginning on.

@@ -272,6 +272,27 @@ impl<'a> Client<'a> {
     }
 }
 
+/// Fails connections to servers that were waited for too long. The answer is whether one is. With an
+/// error serving ends: memory was refused.
+fn look_at<'a, N: Net + Clock, S: Wire>(
+    service: &mut Service,
+    sockets: &mut Watched<'a, N, SocketWorld<'a, N, S>>,
+    now: Instant,
+    limits: &Limits,
+) -> Result<bool, WorldFault>
+    ensures calls { sockets.new.world.calls ≡ sockets.old.world.calls }
+    ensures failures { sockets.new.world.failures ≡ sockets.old.world.failures }
+    ensures served { IsServed S.left S.held service.old sockets.old.world.sockets → IsServed S.left S.held service.new sockets.new.world.sockets }
+{
+    match sockets.look(service.idle(), now, limits) {
+        Ok(is_late) => Ok(is_late),
+        Err(fault) => {
+            service.fail();
+            Err(fault)
+        }
+    }
+}
+
 impl<'a, N: Net + Clock, S: Wire> Serving<'a, N, S> {
     /// Serving begins, for so many turns at most, in a world that wasn't asked for anything yet.
     fn begin(
@@ -300,13 +321,7 @@ impl<'a, N: Net + Clock, S: Wire> Serving<'a, N, S> {
     /// Fails connections to servers that were waited for too long. The answer is whether one is. An
     /// error says that the client is lost, with which serving it ends.
     fn look(&mut self, now: Instant, limits: &Limits) -> Result<bool, WorldFault> {
-        match self.sockets.look(self.service.idle(), now, limits) {
-            Ok(is_late) => Ok(is_late),
-            Err(fault) => {
-                self.service.fail();
-                Err(fault)
-            }
-        }
+        look_at(&mut self.service, &mut self.sockets, now, limits)
     }
 
     /// Notes what was reported of one of its sockets. An error says that the client is lost, with

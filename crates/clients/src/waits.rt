@@ -1,6 +1,6 @@
 //! For how long servers are waited for.
 
-ghost use Rattle.std.specs.Prelude.{◌≡◌, ◌+◌, ◌*◌, ◌<◌, ◌≤◌, ◌↔◌, ◌-◌, IsTrue, Some, None, [], false, true, unwrap_or, OnOk, OnErr, if◌then◌else◌};
+ghost use Rattle.std.specs.Prelude.{◌≡◌, ◌+◌, ◌*◌, ◌<◌, ◌≤◌, ◌↔◌, ◌-◌, IsTrue, IfSome, Some, None, [], vec_len, false, true, unwrap_or, OnOk, OnErr, if◌then◌else◌};
 ghost use Rattle.std.specs.Duration.{as_nanos};
 ghost use Rattle.std.specs.Time.{instant_nanos};
 ghost use Rattle.clients.specs.Serving.{StaysServed, FailsServed};
@@ -145,7 +145,9 @@ impl Waits {
     }
 
     /// The place of a connection.
-    fn place_of(&self, k: u32) -> Option<usize> {
+    fn place_of(&self, k: u32) -> Option<usize>
+        ensures { IfSome result (λ place. place < vec_len self.now.waits) }
+    {
         self.waits.binary_search_by_key(&k, |wait| wait.k).ok()
     }
 
@@ -204,7 +206,11 @@ fn give_up_if<N: Net + Clock, S: Wire>(
     if !is_late {
         return Ok(false);
     }
-    let is_given_up = world.give_up(wait.k)?;
-    wait.is_late = wait.is_late || is_given_up;
-    Ok(is_given_up)
+    match world.give_up(wait.k) {
+        Ok(is_given_up) => {
+            wait.is_late = wait.is_late || is_given_up;
+            Ok(is_given_up)
+        }
+        Err(fault) => Err(fault),
+    }
 }

@@ -9,6 +9,7 @@ ghost use Rattle.sockets.specs.Moves.{seen_in};
 ghost use Rattle.theory_sockets.specs.Passed.{IsNew};
 ghost use Rattle.clients.specs.Serving.{IsServed, IsTold};
 
+use crate::journal::Lines;
 use crate::log::say_exchanges;
 use crate::pace::Pace;
 use crate::waits::{Limits, Waits};
@@ -192,6 +193,7 @@ impl<'a> Client<'a> {
         &mut self,
         common: &Common<'a>,
         buffer: &mut Buffer,
+        journal: &mut Lines<'a>,
         is_told: bool,
         is_alone: bool,
     ) -> (Remaining, Option<Outcome>) {
@@ -200,26 +202,26 @@ impl<'a> Client<'a> {
             return (self.leave_on(common, buffer), None);
         };
         let round = serving.take_turns(common.rt, buffer, is_told, is_alone);
-        say_exchanges(common, number, address, &mut serving.sockets);
+        say_exchanges(common, journal, number, address, &mut serving.sockets);
         match round {
             Round::More => (Remaining::More, None),
             Round::Nothing => (Remaining::Nothing, None),
             Round::Ended(outcome) => {
-                self.end(common);
+                self.end(common, journal);
                 (self.leave_on(common, buffer), Some(outcome))
             }
         }
     }
 
     /// Ends serving it, and begins to leave it.
-    pub fn end(&mut self, common: &Common<'a>) {
+    pub fn end(&mut self, common: &Common<'a>, journal: &mut Lines<'a>) {
         let Some(serving) = self.serving.take() else {
             return;
         };
         self.opened = serving.service.opened();
         let mut sockets = Box::into_inner(serving).into_sockets();
         sockets.abandon();
-        say_exchanges(common, self.number, self.address, &mut sockets);
+        say_exchanges(common, journal, self.number, self.address, &mut sockets);
         if let Ok(now) = Instant::now(common.rt) {
             self.departure = Some(sockets.into_world().leave(now));
         }

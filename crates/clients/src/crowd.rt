@@ -6,6 +6,7 @@ ghost use Rattle.h2gw_setup.specs.Stops.{status_of};
 
 use crate::client::{Client, Common, Outcome, Remaining};
 use crate::entrance::{Came, Entrance, Why};
+use crate::journal::{Journal, Lines, StandardError};
 use crate::log::{say_ended, say_refused};
 use crate::waits::{Limits, has_limits};
 use driver::ServeFault;
@@ -40,6 +41,8 @@ pub struct Crowd<'a> {
     leaving: usize,
     /// Where octets are read to, of whichever client has its turn.
     buffer: Buffer,
+    /// What is said of clients.
+    journal: Lines<'a>,
     /// When it was last looked after clients that are idle or being left.
     ticked: Option<Instant>,
 }
@@ -105,6 +108,7 @@ impl<'a> Crowd<'a> {
             queue: VecDeque::with_capacity(alloc, places)?,
             leaving: 0,
             buffer: Buffer::new(alloc),
+            journal: Journal::new(alloc, StandardError::new(common.rt)),
             ticked: None,
         })
     }
@@ -126,7 +130,9 @@ impl<'a> Crowd<'a> {
         self.tick(common)?;
         self.wait(common, reactor)?;
         let is_told = self.hear_all(common, reactor)?;
-        self.go_on(common, is_told)
+        self.go_on(common, is_told)?;
+        self.journal.flush();
+        Ok(())
     }
 
     /// Waits until something is reported, or is to be done.
@@ -154,7 +160,10 @@ impl<'a> Crowd<'a> {
 
     /// Whether something is to be done where only time passes.
     fn is_ticking(&self, setting: &Setting) -> bool {
-        self.leaving > 0 || has_limits(setting) || self.entrance.is_paused()
+        self.leaving > 0
+            || has_limits(setting)
+            || self.entrance.is_paused()
+            || self.journal.is_waiting()
     }
 
     /// Heeds what was reported, and looks again as long as so many sockets were that others may
@@ -217,7 +226,7 @@ impl<'a> Crowd<'a> {
         let client = &mut self.clients[place];
         if client.hear(report).is_err() {
             self.leaving = self.leaving.saturating_add(1);
-            lose(common, client)?;
+            lose(common, &mut self.journal, client)?;
         }
         join(client, &mut self.queue)
     }
@@ -244,7 +253,7 @@ impl<'a> Crowd<'a> {
     /// Says why a client can't be served. Where none is let in until time passes, that time begins
     /// now.
     fn refuse(&mut self, common: &Common<'a>, why: Why) {
-        say_refused(common.rt, why);
+        say_refused(&mut self.journal, why);
         if self.entrance.is_paused() {
             self.ticked = Instant::now(common.rt).ok();
         }
@@ -279,7 +288,13 @@ impl<'a> Crowd<'a> {
         }
         self.ticked = Some(now);
         self.entrance.resume();
-        let lost = look_after_all(common, &mut self.clients, now, &mut self.queue)?;
+        let lost = look_after_all(
+            common,
+            &mut self.journal,
+            &mut self.clients,
+            now,
+            &mut self.queue,
+        )?;
         self.leaving = self.leaving.saturating_add(lost);
         Ok(())
     }
@@ -313,10 +328,16 @@ impl<'a> Crowd<'a> {
         let is_alone = self.clients.len() == 1;
         let client = &mut self.clients[place];
         client.is_queued = false;
-        let (remaining, outcome) = client.go_on(common, &mut self.buffer, is_told, is_alone);
+        let (remaining, outcome) = client.go_on(
+            common,
+            &mut self.buffer,
+            &mut self.journal,
+            is_told,
+            is_alone,
+        );
         if let Some(outcome) = outcome {
             self.leaving = self.leaving.saturating_add(1);
-            note_end(common, client, &outcome)?;
+            note_end(common, &mut self.journal, client, &outcome)?;
         }
         match remaining {
             Remaining::More => join(client, &mut self.queue),
@@ -347,17 +368,22 @@ fn is_due(now: Instant, ticked: Option<Instant>) -> bool {
 
 /// Notes how serving a client ended. Want of memory stops the program only where there is one place
 /// for clients.
-fn note_end(common: &Common<'_>, client: &Client<'_>, outcome: &Outcome) -> Result<(), Stop>
+fn note_end(
+    common: &Common<'_>,
+    journal: &mut Lines<'_>,
+    client: &Client<'_>,
+    outcome: &Outcome,
+) -> Result<(), Stop>
     ensures { IfErr result (λ stop. 2 ≤ status_of stop) }
 {
     if matches!(outcome, Err(ServeFault::Memory)) {
         if common.setting.clients == 1 {
             return Err(Stop::Memory);
         }
-        say_refused(common.rt, Why::Memory);
+        say_refused(journal, Why::Memory);
     }
     if common.setting.is_logged {
-        say_ended(common.rt, client, outcome);
+        say_ended(common.rt, journal, client, outcome);
     }
     Ok(())
 }
@@ -386,6 +412,7 @@ fn join(client: &mut Client<'_>, queue: &mut VecDeque<u32>) -> Result<(), Stop>
 /// Looks after all of these. The answer is how many are lost.
 fn look_after_all<'a>(
     common: &Common<'a>,
+    journal: &mut Lines<'a>,
     clients: &mut [Client<'a>],
     now: Instant,
     queue: &mut VecDeque<u32>,
@@ -394,7 +421,7 @@ fn look_after_all<'a>(
 {
     let mut lost: usize = 0;
     for client in clients {
-        if look_after(common, client, now, queue)? {
+        if look_after(common, journal, client, now, queue)? {
             lost = lost.saturating_add(1);
         }
     }
@@ -406,6 +433,7 @@ fn look_after_all<'a>(
 /// is lost.
 fn look_after<'a>(
     common: &Common<'a>,
+    journal: &mut Lines<'a>,
     client: &mut Client<'a>,
     now: Instant,
     queue: &mut VecDeque<u32>,
@@ -424,7 +452,7 @@ fn look_after<'a>(
             Ok(false)
         }
         Err(_) => {
-            lose(common, client)?;
+            lose(common, journal, client)?;
             join(client, queue)?;
             Ok(true)
         }
@@ -442,9 +470,13 @@ fn end_idle(setting: &Setting, client: &mut Client<'_>, now: Instant) {
 }
 
 /// A client is lost.
-fn lose<'a>(common: &Common<'a>, client: &mut Client<'a>) -> Result<(), Stop>
+fn lose<'a>(
+    common: &Common<'a>,
+    journal: &mut Lines<'a>,
+    client: &mut Client<'a>,
+) -> Result<(), Stop>
     ensures { IfErr result (λ stop. 2 ≤ status_of stop) }
 {
-    client.end(common);
-    note_end(common, client, &Err(ServeFault::World))
+    client.end(common, journal);
+    note_end(common, journal, client, &Err(ServeFault::World))
 }

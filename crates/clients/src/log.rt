@@ -1,10 +1,11 @@
 //! What is said of clients and of exchanges with upstreams on standard error. A write that fails
-//! stops nothing; one that waits stops all until it is done.
+//! stops nothing, and none is waited for.
 
 ghost use Rattle.std.specs.Prelude.{◌≡◌};
 
 use crate::client::{Client, Common, Outcome, WatchedSockets};
 use crate::entrance::Why;
+use crate::journal::Lines;
 use driver::{ServeFault, ServiceEnd};
 use exchange_log::{End, Exchange, Over};
 use gateway::Passing;
@@ -15,23 +16,28 @@ use std::time::Instant;
 const SAID_AT_ONCE: u32 = 1024;
 
 /// Says why a client can't be served.
-pub fn say_refused(rt: &HostRuntime, why: Why) {
+pub fn say_refused(journal: &mut Lines<'_>, why: Why) {
     let line = match why {
         Why::Files => "clients: too many open files",
         Why::Memory => "clients: no memory",
         Why::Unwatched => "clients: a connection can't be watched",
     };
-    let _ = rt.eprintln(line);
+    journal.say(line);
 }
 
 /// Says how long ago a client was accepted, how serving it ended, and how many streams it opened.
-pub fn say_ended(rt: &HostRuntime, client: &Client<'_>, outcome: &Outcome) {
+pub fn say_ended(
+    rt: &HostRuntime,
+    journal: &mut Lines<'_>,
+    client: &Client<'_>,
+    outcome: &Outcome,
+) {
     let millis = millis_since(rt, client.came);
     let words = words_of(outcome);
     let (number, address, opened) = (client.number, client.address, client.opened);
-    let _ = eprintln!(rt;
+    journal.say_made(format!(in rt.alloc();
         "client {number} {address}: accepted {millis} ms ago, {words}, streams {opened}"
-    );
+    ));
 }
 
 /// How serving a client ended, in words.
@@ -56,6 +62,7 @@ fn millis_since(rt: &HostRuntime, then: Instant) -> u128 {
 /// Says which exchanges of a client are over, each in one line.
 pub fn say_exchanges(
     common: &Common<'_>,
+    journal: &mut Lines<'_>,
     number: u32,
     address: SocketAddr,
     sockets: &mut WatchedSockets<'_>,
@@ -66,14 +73,20 @@ pub fn say_exchanges(
         let Some(over) = sockets.next_over() else {
             break;
         };
-        say_over(common, number, address, &over);
+        say_over(common, journal, number, address, &over);
     }
 }
 
 /// Says of an exchange of a client that is over with which upstream it was, what the request line
 /// is, which status came, how many octets went out and came, how long it took, and how it ended. No
 /// field is said.
-fn say_over(common: &Common<'_>, number: u32, address: SocketAddr, over: &Over) {
+fn say_over(
+    common: &Common<'_>,
+    journal: &mut Lines<'_>,
+    number: u32,
+    address: SocketAddr,
+    over: &Over,
+) {
     let Some(upstream) = common.setting.addresses.get(over.route as usize) else {
         return;
     };
@@ -90,9 +103,9 @@ fn say_over(common: &Common<'_>, number: u32, address: SocketAddr, over: &Over) 
     } else {
         ""
     };
-    let _ = eprintln!(common.rt;
+    journal.say_made(format!(in common.rt.alloc();
         "client {number} {address}: {upstream} {line}: {status}, {sent} octets out, {received} in, {millis} ms, {words}{by}"
-    );
+    ));
 }
 
 /// For how many milliseconds an exchange went on.

@@ -9,6 +9,8 @@
 #[cfg(test)]
 mod exchanges_tests;
 #[cfg(test)]
+mod journal_tests;
+#[cfg(test)]
 mod late_tests;
 #[cfg(test)]
 mod pace_tests;

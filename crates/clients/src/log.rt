@@ -97,14 +97,14 @@ fn say_over(
     let millis = millis_of(common.rt, exchange);
     let status = exchange.status().unwrap_or(0);
     let (sent, received) = (exchange.sent(), exchange.received());
-    let words = words_of_end(over.end);
+    let (words, why) = (words_of_end(over.end), why_of(over.end));
     let by = if is_answered_here(common, over) {
         ", answered by the gateway"
     } else {
         ""
     };
     journal.say_made(format!(in common.rt.alloc();
-        "client {number} {address}: {upstream} {line}: {status}, {sent} octets out, {received} in, {millis} ms, {words}{by}"
+        "client {number} {address}: {upstream} {line}: {status}, {sent} octets out, {received} in, {millis} ms, {words}{why}{by}"
     ));
 }
 
@@ -121,14 +121,37 @@ fn millis_of(rt: &HostRuntime, exchange: &Exchange) -> u128 {
 fn words_of_end(end: End) -> &'static str {
     match end {
         End::Whole => "whole",
-        End::Refused => "refused",
-        End::Reset => "reset",
+        End::Refused(_) => "refused",
+        End::Reset(_) => "reset",
         End::TimedOut => "timed out",
         End::EndedEarly => "ended early",
         End::NoResponse => "no response",
         End::Malformed => "not a response",
         End::TooLong => "too long",
         End::GivenUp => "given up",
+    }
+}
+
+/// By which error of the system an exchange ended, in words, if it told one.
+fn why_of(end: End) -> &'static str {
+    match end {
+        End::Refused(Some(error)) | End::Reset(Some(error)) => words_of_error(error),
+        _ => "",
+    }
+}
+
+/// An error of connect(2), read(2) or write(2), by its number in Linux.
+fn words_of_error(error: i32) -> &'static str {
+    match error {
+        1 | 13 => " (not permitted)",
+        12 | 105 => " (no memory)",
+        23 | 24 => " (too many open files)",
+        32 | 104 => " (reset by the server)",
+        99 => " (no port left)",
+        100 | 101 | 112 | 113 => " (unreachable)",
+        110 => " (timed out by the system)",
+        111 => " (connection refused)",
+        _ => " (another error)",
     }
 }
 

@@ -249,7 +249,7 @@ module _ {S : Type 0} where
   same_untold a b same = sym (untold_out b) ∙ ap untold_in same ∙ untold_out a
 
   -- It was read, and joined again where it had to.
-  pub requeued : (R r r' w : List ℕ) (first read new : Upstream S) → read ≡ record first { side = read.side; is_queued = false } → out_of read.side ≡ out_of first.side → new ≡ record read { is_queued = new.is_queued }
+  pub requeued : (R r r' w : List ℕ) (first read new : Upstream S) → read ≡ record first { side = read.side; is_queued = false; error = read.error } → out_of read.side ≡ out_of first.side → new ≡ record read { is_queued = new.is_queued }
       → (may_be_ready read.side ≡ true → new.is_queued ≡ true) → ((read.is_queued ≡ true → Contains r read.k) → new.is_queued ≡ true → Contains r' read.k) → IsListed R w first → IsListed r' w new
   requeued R r r' w first read new was out is may queued before =
       let read_k : read.k ≡ first.k = ap (λ (u : Upstream S). u.k) was in

@@ -98,7 +98,7 @@ impl Buffer {
         ensures goes { IfOk result (λ event. GoesBy S.left S.held event upstream.old upstream.new) }
         ensures lost { OnErr result (GoesOn S.left S.held lost_news upstream.old upstream.new) }
         ensures fits { IfOk result (λ event. FitsRoom (min room 65536) event) }
-        ensures stays { upstream.new ≡ record upstream.old { side = upstream.new.side; is_queued = false } }
+        ensures stays { upstream.new ≡ record upstream.old { side = upstream.new.side; is_queued = false; error = upstream.new.error } }
         ensures out { out_of upstream.new.side ≡ out_of upstream.old.side }
         ensures portion { self.new.portion ≡ self.old.portion }
     {
@@ -122,7 +122,7 @@ fn read_front<S: Wire>(
     ensures goes { IfOk result (λ event. GoesBy S.left S.held event upstream.old upstream.new) }
     ensures lost { OnErr result (GoesOn S.left S.held lost_news upstream.old upstream.new) }
     ensures fits { IfOk result (λ event. FitsRoom (min room (length octets.old)) event) }
-    ensures stays { upstream.new ≡ record upstream.old { side = upstream.new.side; is_queued = false } }
+    ensures stays { upstream.new ≡ record upstream.old { side = upstream.new.side; is_queued = false; error = upstream.new.error } }
     ensures out { out_of upstream.new.side ≡ out_of upstream.old.side }
 {
     let most = room.min(octets.len());

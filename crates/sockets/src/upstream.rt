@@ -2,6 +2,7 @@
 
 ghost use Rattle.std.specs.Prelude.{◌≡◌, ◌≢◌, ◌<◌, ◌↔◌, ◌&&◌, ◌||◌, [], false, not, length, Some, Ok, Err, IsTrue, IfOk, IsOkAnd, OnOk, OnErr, IfSome, IfNone, unwrap_or, if◌then◌else◌, true};
 ghost use Rattle.std.specs.Duration.{as_nanos};
+ghost use Rattle.std.specs.IoError.{error_kind};
 ghost use Rattle.std.specs.declared.io.Error.{Error};
 ghost use Rattle.std.specs.declared.result.Result.{Result};
 ghost use Rattle.socket_io.specs.declared.incoming.Got.{Got};
@@ -41,14 +42,23 @@ pub struct Upstream<S> {
     is_listed: bool,
     /// When it was first noted that it is idle, if nothing was put out for it since.
     idle_since: Option<Instant>,
+    /// The system's number of the error by which it failed, if it told one.
+    error: Option<i32>,
 }
 
 impl<S: Wire> Upstream<S> {
-    /// A connection that is begun, or that couldn't be.
-    pub fn new(k: u32, address: Option<SocketAddr>, side: Option<Side<S>>) -> Upstream<S>
+    /// A connection that is begun, or that couldn't be, by an error of which the system told the
+    /// number or didn't.
+    pub fn new(
+        k: u32,
+        address: Option<SocketAddr>,
+        side: Option<Side<S>>,
+        error: Option<i32>,
+    ) -> Upstream<S>
         ensures number { result.k ≡ k }
         ensures address { result.address ≡ address }
         ensures side { result.side ≡ side }
+        ensures error { result.error ≡ error }
         ensures anew { (result.broken ≡ false) × (result.is_queued ≡ false) × (result.is_listed ≡ false) }
     {
         Upstream {
@@ -59,6 +69,7 @@ impl<S: Wire> Upstream<S> {
             is_queued: false,
             is_listed: false,
             idle_since: None,
+            error,
         }
     }
 
@@ -191,13 +202,13 @@ impl<S: Wire> Upstream<S> {
     pub fn give_up(&mut self) -> bool
         ensures gives { result ≡ not (may_be_ready self.old.side) }
         ensures stands { (self.new.is_queued ≡ self.old.is_queued) × (self.new.is_listed ≡ self.old.is_listed) }
-        ensures given { self.new ≡ (if may_be_ready self.old.side then self.old else record self.old { broken = true; side = side_given_up self.old.side }) }
+        ensures given { self.new ≡ (if may_be_ready self.old.side then self.old else record self.old { broken = true; side = side_given_up self.old.side; error = self.new.error }) }
         ensures goes { GoesOn S.left S.held no_news self.old self.new }
     {
         if self.may_be_ready() {
             return false;
         }
-        self.fail(ErrorKind::TimedOut);
+        self.fail(&io::Error::from(ErrorKind::TimedOut));
         true
     }
 
@@ -217,7 +228,7 @@ impl<S: Wire> Upstream<S> {
         match side.put(registry, octets) {
             Ok(()) => Ok(()),
             Err(PutFault::Socket(error)) => {
-                self.fail(error.kind());
+                self.fail(&error);
                 Ok(())
             }
             Err(PutFault::Memory) => Err(WorldFault {}),
@@ -238,7 +249,7 @@ impl<S: Wire> Upstream<S> {
             return;
         };
         if let Err(error) = side.flush(registry) {
-            self.fail(error.kind());
+            self.fail(&error);
         }
     }
 
@@ -253,7 +264,7 @@ impl<S: Wire> Upstream<S> {
         ensures goes { IfOk result (λ event. GoesBy S.left S.held event self.old self.new) }
         ensures lost { OnErr result (GoesOn S.left S.held lost_news self.old self.new) }
         ensures fits { IfOk result (λ event. FitsRoom (length room.old) event) }
-        ensures stays { self.new ≡ record self.old { side = self.new.side; is_queued = false } }
+        ensures stays { self.new ≡ record self.old { side = self.new.side; is_queued = false; error = self.new.error } }
         ensures out { out_of self.new.side ≡ out_of self.old.side }
     {
         self.leave_queue();
@@ -274,7 +285,7 @@ impl<S: Wire> Upstream<S> {
         ensures fits { IfOk result (λ event. FitsRoom (length room.old) event) }
         ensures told { IfSome self.old.side (λ side. (got : Result Got Error) × Tells self.old.k self.old.broken side.lost got result) }
         ensures unmade { IfNone self.old.side (IsOkAnd result (λ event. event ≡ Some (Event.UpFailed self.old.k))) }
-        ensures stays { self.new ≡ record self.old { side = self.new.side } }
+        ensures stays { self.new ≡ record self.old { side = self.new.side; error = self.new.error } }
         ensures out { out_of self.new.side ≡ out_of self.old.side }
     {
         let Some(side) = &mut self.side else {
@@ -282,16 +293,34 @@ impl<S: Wire> Upstream<S> {
         };
         let is_lost = side.is_lost();
         let got = side.read(alloc, room);
+        self.note_error(&got);
         event_of(self.k, self.broken, is_lost, got)
+    }
+
+    /// The system's number of the error by which it failed, if it told one.
+    pub fn error(&self) -> Option<i32>
+        ensures { result ≡ self.now.error }
+    {
+        self.error
+    }
+
+    /// Notes the error of a read, if it gave one.
+    fn note_error(&mut self, got: &io::Result<Got>)
+        ensures { self.new ≡ record self.old { error = self.new.error } }
+    {
+        if let Err(error) = got {
+            self.error = error.raw_os_error();
+        }
     }
 
     /// Its socket failed at a write. Where its server had ended it before, which a broken pipe
     /// says, that end is still there behind what was sent; else it failed.
-    fn fail(&mut self, kind: ErrorKind)
-        ensures broken { IsTrue self.new.broken ↔ (kind ≢ ErrorKind.BrokenPipe) }
-        ensures stays { self.new ≡ record self.old { broken = self.new.broken; side = side_given_up self.old.side } }
+    fn fail(&mut self, error: &io::Error)
+        ensures broken { IsTrue self.new.broken ↔ (error_kind error.now ≢ ErrorKind.BrokenPipe) }
+        ensures stays { self.new ≡ record self.old { broken = self.new.broken; side = side_given_up self.old.side; error = self.new.error } }
     {
-        self.broken = kind != ErrorKind::BrokenPipe;
+        self.broken = error.kind() != ErrorKind::BrokenPipe;
+        self.error = error.raw_os_error();
         if let Some(side) = &mut self.side {
             side.lose();
         }

@@ -218,6 +218,14 @@ impl<'a, N: Net + Clock, S: Wire> SocketWorld<'a, N, S> {
         self.sockets.give_up(k)
     }
 
+    /// The system's number of the error by which the connection failed whose failure was told last,
+    /// if it told one.
+    pub fn failure(&self) -> Option<i32>
+        ensures { result ≡ self.now.sockets.failure }
+    {
+        self.sockets.failure
+    }
+
     /// Ends what the client sends: what came of it before is still read, and then its end, as where
     /// it had ended that itself.
     pub fn end_client(&mut self) -> io::Result<()>

@@ -1,5 +1,5 @@
 -- What serves a client stands for what passed through its sockets, from call to call.
-use Rattle.std.proofs.Common.{◌≡◌, ◌×◌, ◌∷◌, ℕ, List, [], Bool, false, Option, None, Some, Result, Ok, Err, refl, sym, subst}
+use Rattle.std.proofs.Common.{◌≡◌, ◌∷◌, ℕ, List, [], Bool, false, Option, None, Some, Result, Ok, Err, refl, sym, subst}
 use Rattle.std.specs.Prelude.{All, unwrap_or}
 use Rattle.std.proofs.lemmas.List.Elements.{All-nil, All-cons}
 use Rattle.model.specs.Setup.{Setup}
@@ -15,7 +15,7 @@ use Rattle.driver.specs.declared.world.WorldFault.{WorldFault}
 use Rattle.driver.proofs.Calling.{runs_none, runs_aside, served_aside, served_ended}
 use Rattle.sockets.specs.Moves.{Seen, Steps, seen_in}
 use Rattle.sockets.specs.declared.connections.Sockets.{Sockets}
-use Rattle.theory_sockets.specs.Passed.{IsNew}
+use Rattle.theory_sockets.specs.Passed.{IsNew, IsServedBy}
 use Rattle.theory_sockets.proofs.Serving.{served}
 use Rattle.clients.specs.Serving.{IsAside, MovesAside, moves, hears, reads, heard_at, looks, HasEnded, StandsBy, IsServed, IsTold}
 use Rattle.clients.proofs.Through.{RunsThrough, WasServedThrough, runs_out, runs_in, was_in}
@@ -121,6 +121,15 @@ module _ {S : Type 0} (left held : S → Option (List ℕ)) where
         pub turned : IsServed left held service (inner old) → IsServed left held service' (inner new)
         turned s = turned_by service.outcome refl s
 
+    -- the same, with the worlds first
+    pub taken : {V : Type 0} (old new : V) (inner : V → World') (outer : World' → V) (is : (w : World') → inner (outer w) ≡ w) (service service' : Served) (result : Result (Option ServiceEnd) ServeFault)
+        → outer (inner old) ≡ old
+        → (service.outcome ≡ None → (setup : Setup) (begun : V) → RunsThrough (moves left held) hears reads heard_at looks inner setup false begun old service.gateway service.rooms
+            → TurnLeaves (λ a call b. moves left held (inner a) call (inner b)) (λ v. hears (inner v)) (λ v. reads (inner v)) (λ v. heard_at (inner v)) (λ v. looks (inner v)) setup result begun new service'.gateway service'.rooms)
+        → ((outcome : Result ServiceEnd ServeFault) → service.outcome ≡ Some outcome → (result ≡ turn_of outcome) × (service' ≡ service) × (new ≡ old)) → service'.outcome ≡ outcome_of result
+        → IsServed left held service (inner old) → IsServed left held service' (inner new)
+    taken old new inner outer is service service' result whole turns stays ended s = turned inner outer is service service' old new result whole turns stays ended s
+
     -- ---- what it comes to
 
     told_by : (o : Option (Result ServiceEnd ServeFault)) (service : Served) (now : World') (setup : Setup) (begun : World') → IsNew (seen_in begun) → StandsBy left held o setup begun service now → IsTold left held now
@@ -146,3 +155,9 @@ module _ {S : Type 0} (left held : S → Option (List ℕ)) where
 
     pub told : (service : Served) (now : World') → IsServed left held service now → IsTold left held now
     told service now s = told_by service.outcome service now s.setup s.begun s.is_new s.stands
+
+  -- A world that moves as sockets do was served from its beginning on.
+  pub served_from : {W : Type 0} {moves' : W → Call → W → Type 0} {hears' : W → Type 0} {could_read : W → ℕ → Bool} {heard looked : W → ℕ} (begun world : W) (setup : Setup) (outcome : Result ServiceEnd ServeFault)
+      → WasServed moves' hears' could_read heard looked setup outcome begun world → (seen : W → Seen S) → ((old new : W) (call : Call) → moves' old call new → Steps left held call (seen old) (seen new)) → IsNew (seen begun)
+      → IsServedBy left held setup outcome (seen begun) (seen world)
+  served_from {moves'} {hears'} {could_read} {heard} {looked} begun world setup outcome was seen by new = served left held moves' hears' could_read heard looked seen by setup outcome begun world new was

@@ -1,5 +1,5 @@
 -- What serves a client stands for all that passed through its sockets from their beginning on.
-use Rattle.std.specs.Prelude.{◌≡◌, ℕ, Bool, false, List, All, Option, None, Some, Result, Err, unwrap_or, ⊤, ⊥}
+use Rattle.std.specs.Prelude.{◌≡◌, ℕ, Bool, false, List, All, Option, None, Some, Result, Err, unwrap_or, ⊤}
 use Rattle.model.specs.Setup.{Setup}
 use Rattle.driver.specs.Calls.{Call, Along, Runs, WasServed}
 use Rattle.driver.specs.Calls.Call.{Asked, Applied, Aside}

@@ -1,6 +1,6 @@
 //! The connections of clients.
 
-ghost use Rattle.std.specs.Prelude.{◌≡◌, ◌+◌, ◌≤◌, ◌↔◌, ◌×◌, IfErr, IsTrue, false};
+ghost use Rattle.std.specs.Prelude.{◌≡◌, ◌+◌, ◌≤◌, ◌↔◌, IfErr, IsTrue, false};
 ghost use Rattle.gateway.specs.Setups.{setup_of, IsServable};
 ghost use Rattle.h2gw_setup.specs.Stops.{status_of};
 ghost use Rattle.sockets.specs.Moves.{seen_in};

@@ -1,7 +1,7 @@
 use Rattle.sockets.specs.Moves.{seen_in}
-use Rattle.theory_sockets.proofs.Serving.{served}
+use Rattle.clients.proofs.Serving.{served_from}
 use Rattle.clients.proofs.listening.serve_world.Goals as goal
 
 pub returns : goal.returns
 returns g c =
-    served g.S.Socket.left g.S.Socket.held _ _ _ _ _ (λ w. seen_in w.sockets) (λ before behind call step. step) _ _ _ _ c.requires.new c.serve.ensures.calls_are
+    served_from g.S.Socket.left g.S.Socket.held c.args.world.now c.serve.new.world _ _ c.serve.ensures.calls_are (λ world. seen_in world.sockets) (λ before behind call step. step) c.requires.new

@@ -1,5 +1,6 @@
-use Rattle.std.proofs.Common.{rules, ◌≡◌, ◌<◌, ◌∙◌, inr, get_or, length, subst, sym, ap}
+use Rattle.std.proofs.Common.{rules, ◌≡◌, ◌<◌, ◌∙◌, inl, inr, get_or, length, refl, subst, sym, ap}
 use Rattle.sockets.specs.Noting.{HasNoted}
+use Rattle.sockets.specs.Performed.{IsOpenNowhere}
 use Rattle.sockets.specs.Queues.{IsMarked}
 use Rattle.sockets.specs.Tokens.{number_reported}
 use Rattle.sockets.specs.Sides.{GoesOn, KeepsHeard, no_news, note_side}
@@ -11,6 +12,14 @@ use Rattle.sockets.proofs.queues.heed.Goals as goal
 
 pub returns-in_default-clause-goes : goal.returns-in_default-clause-goes
 returns-in_default-clause-goes g c = all_still _ _ c.args.upstreams.now.items
+
+pub returns-in_default-clause-noted : goal.returns-in_default-clause-noted
+returns-in_default-clause-noted g c =
+    let us = c.args.upstreams.now.items in
+    let number : c.number_in.result ≡ number_reported c.args.report.now = search rules in
+    λ rising.
+    let absent : IsOpenNowhere c.number_in.result us = rw (← c.deref.ensures.value) (c.in_default.ensures.absent (rw c.deref.ensures.value rising)) in
+    inl (subst (λ k. IsOpenNowhere k us) number absent, refl)
 
 pub returns-in_default-clause-ready : goal.returns-in_default-clause-ready
 returns-in_default-clause-ready g c = grows_still c.args.ready.now.items

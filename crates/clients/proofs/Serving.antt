@@ -125,7 +125,7 @@ module _ {S : Type 0} (left held : S → Option (List ℕ)) where
     pub taken : {V : Type 0} (old new : V) (inner : V → World') (outer : World' → V) (is : (w : World') → inner (outer w) ≡ w) (service service' : Served) (result : Result (Option ServiceEnd) ServeFault)
         → outer (inner old) ≡ old
         → (service.outcome ≡ None → (setup : Setup) (begun : V) → RunsThrough (moves left held) hears reads heard_at looks inner setup false begun old service.gateway service.rooms
-            → TurnLeaves (λ a call b. moves left held (inner a) call (inner b)) (λ v. hears (inner v)) (λ v. reads (inner v)) (λ v. heard_at (inner v)) (λ v. looks (inner v)) setup result begun new service'.gateway service'.rooms)
+        → TurnLeaves (λ a call b. moves left held (inner a) call (inner b)) (λ v. hears (inner v)) (λ v. reads (inner v)) (λ v. heard_at (inner v)) (λ v. looks (inner v)) setup result begun new service'.gateway service'.rooms)
         → ((outcome : Result ServiceEnd ServeFault) → service.outcome ≡ Some outcome → (result ≡ turn_of outcome) × (service' ≡ service) × (new ≡ old)) → service'.outcome ≡ outcome_of result
         → IsServed left held service (inner old) → IsServed left held service' (inner new)
     taken old new inner outer is service service' result whole turns stays ended s = turned inner outer is service service' old new result whole turns stays ended s

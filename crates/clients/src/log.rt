@@ -9,6 +9,7 @@ use crate::journal::Lines;
 use driver::{ServeFault, ServiceEnd};
 use exchange_log::{End, Exchange, Over};
 use gateway::Passing;
+use h2gw_setup::stamps::Stamp;
 use std::net::SocketAddr;
 use std::time::Instant;
 
@@ -25,18 +26,20 @@ pub fn say_refused(journal: &mut Lines<'_>, why: Why) {
     journal.say(line);
 }
 
-/// Says how long ago a client was accepted, how serving it ended, and how many streams it opened.
+/// Says, with the time, how long ago a client was accepted, how serving it ended, and how many
+/// streams it opened.
 pub fn say_ended(
     rt: &HostRuntime,
     journal: &mut Lines<'_>,
     client: &Client<'_>,
     outcome: &Outcome,
 ) {
+    let stamp = Stamp::now(rt);
     let millis = millis_since(rt, client.came);
     let words = words_of(outcome);
     let (number, address, opened) = (client.number, client.address, client.opened);
     journal.say_made(format!(in rt.alloc();
-        "client {number} {address}: accepted {millis} ms ago, {words}, streams {opened}"
+        "{stamp} client {number} {address}: accepted {millis} ms ago, {words}, streams {opened}"
     ));
 }
 
@@ -77,9 +80,9 @@ pub fn say_exchanges(
     }
 }
 
-/// Says of an exchange of a client that is over with which upstream it was, what the request line
-/// is, which status came, how many octets went out and came, how long it took, and how it ended. No
-/// field is said.
+/// Says, with the time, of an exchange of a client that is over with which upstream it was, what
+/// the request line is, which status came, how many octets went out and came, how long it took, and
+/// how it ended. No field is said.
 fn say_over(
     common: &Common<'_>,
     journal: &mut Lines<'_>,
@@ -94,6 +97,7 @@ fn say_over(
     let Ok(line) = str::from_utf8(exchange.line()) else {
         return;
     };
+    let stamp = Stamp::now(common.rt);
     let millis = millis_of(common.rt, exchange);
     let status = exchange.status().unwrap_or(0);
     let (sent, received) = (exchange.sent(), exchange.received());
@@ -104,7 +108,7 @@ fn say_over(
         ""
     };
     journal.say_made(format!(in common.rt.alloc();
-        "client {number} {address}: {upstream} {line}: {status}, {sent} octets out, {received} in, {millis} ms, {words}{why}{by}"
+        "{stamp} client {number} {address}: {upstream} {line}: {status}, {sent} octets out, {received} in, {millis} ms, {words}{why}{by}"
     ));
 }
 

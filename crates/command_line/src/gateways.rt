@@ -34,18 +34,18 @@ const KEEP_IDLE: &str =
     "For how many seconds a connection to a server may be idle; 0 is for ever [default: 0]";
 
 const CONNECT: &str =
-    "For how many seconds a connection to a server may take to come about; 0 is for ever [default: 0]";
+    "For how many seconds a new connection to a server may take nothing; 0 is for ever [default: 0]";
 
 const ANSWER: &str =
-    "For how many seconds a server may send nothing of a response; 0 is for ever [default: 0]";
+    "For how many seconds a connection to a server may then neither take nor give anything; 0 is for ever [default: 0]";
 
 const LOG: &str =
     "Writes a line on standard error for each exchange with a server and for each connection";
 
 const CHECK: &str = "Says what the configuration sets, or what is wrong with it, and serves nobody";
 
-/// How many connections are served, and turns are taken: as many as can be counted, where nothing is
-/// said.
+/// How many connections are served, and turns are taken: as many as can be counted, where nothing
+/// is said.
 const COUNT_RANGE: Range = Range {
     least: 0,
     most: u32::MAX,
@@ -83,9 +83,10 @@ pub struct GatewayWords {
     pub idle: u32,
     /// For how many seconds a connection to a server may be idle; 0 is for ever.
     pub keep_idle: u32,
-    /// For how many seconds a connection to a server may take to come about; 0 is for ever.
+    /// For how many seconds a new connection to a server may take nothing; 0 is for ever.
     pub connect: u32,
-    /// For how many seconds a server may send nothing of a response; 0 is for ever.
+    /// For how many seconds a connection to a server may then neither take nor give anything; 0 is
+    /// for ever.
     pub answer: u32,
     /// Exchanges with servers and connections are told of on standard error.
     pub is_logged: bool,

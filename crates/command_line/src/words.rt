@@ -21,9 +21,9 @@ pub enum Word {
     Idle,
     /// `--keep-idle SECONDS`: for how many seconds a connection to a server may be idle.
     KeepIdle,
-    /// `--connect SECONDS`: for how many seconds a connection to a server may take to come about.
+    /// `--connect SECONDS`: for how many seconds a new connection to a server may take nothing.
     Connect,
-    /// `--answer SECONDS`: for how many seconds a server may send nothing of a response.
+    /// `--answer SECONDS`: for how many seconds it may then neither take nor give anything.
     Answer,
     /// `--log`: whether exchanges with servers and connections are told of.
     Log,

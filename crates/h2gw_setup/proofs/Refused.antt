@@ -110,7 +110,7 @@ status_of_words Memory is = λ (same : 3 ≡ 2). omega (arith, same)
 
 within : (found : Option Text) (count : ℕ) → IsCountWithin clients_range found count → count ≤ 1024
 within None count is = omega (arith, is)
-within (Some text) count is = is.1.1
+within (Some text) count is = is.2
 
 -- Of clients that are served at once there are at most 1,024.
 pub few_clients : (arguments : List (List ℕ)) (words : GatewayWords) → Means arguments words → words.clients ≤ 1024

@@ -20,8 +20,8 @@ const TABLE_KEYS: [Key; 8] = [
 
 const ROUTE_KEYS: [Key; 3] = [Key::Authority, Key::Prefix, Key::Upstream];
 
-/// Says on standard error where the configuration of this text is wrong, and what could stand there.
-/// An `Err` says that this can't be printed. Of want of memory nothing is said.
+/// Says on standard error where the configuration of this text is wrong, and what could stand
+/// there. An `Err` says that this can't be printed. Of want of memory nothing is said.
 pub fn explain<R: Eprint + AllocGlobal>(rt: &R, fault: ConfigFault, text: &str) -> io::Result<()> {
     let table = match toml::table_from_str(rt.alloc(), text) {
         Ok(table) => table,

@@ -6,4 +6,5 @@ pub mod checks;
 mod explaining;
 pub mod figures;
 pub mod setting;
+pub mod stamps;
 pub mod stops;

@@ -39,9 +39,10 @@ pub struct Setting {
     pub idle: u32,
     /// For how many seconds a connection to a server may be idle; 0 is for ever.
     pub keep_idle: u32,
-    /// For how many seconds a connection to a server may take to come about; 0 is for ever.
+    /// For how many seconds a new connection to a server may take nothing; 0 is for ever.
     pub connect: u32,
-    /// For how many seconds a server may send nothing of a response; 0 is for ever.
+    /// For how many seconds a connection to a server may then neither take nor give anything; 0 is
+    /// for ever.
     pub answer: u32,
     /// Exchanges with servers and connections are told of on standard error.
     pub is_logged: bool,

@@ -130,7 +130,8 @@ static CASES: [Case; 12] = [
     },
     // A key of the second route: a wrong value, or none.
     Case {
-        text: "[[route]]\nprefix = \"/a\"\nupstream = \"127.0.0.1:8081\"\n[[route]]\nprefix = \"/\"\nupstream = \"localhost:80\"\n",
+        text: "[[route]]\nprefix = \"/a\"\nupstream = \"127.0.0.1:8081\"\n\
+               [[route]]\nprefix = \"/\"\nupstream = \"localhost:80\"\n",
         clients: 1,
         status: 1,
         printed: "",
@@ -145,7 +146,8 @@ static CASES: [Case; 12] = [
         complained: "config: bad prefix\nroute 2: prefix is missing: it takes a text that begins with \"/\"\n",
     },
     Case {
-        text: "[[route]]\nprefix = \"/a\"\nupstream = \"127.0.0.1:8081\"\n[[route]]\nprefix = \"a\"\nupstream = \"127.0.0.1:8082\"\n",
+        text: "[[route]]\nprefix = \"/a\"\nupstream = \"127.0.0.1:8081\"\n\
+               [[route]]\nprefix = \"a\"\nupstream = \"127.0.0.1:8082\"\n",
         clients: 1,
         status: 1,
         printed: "",

@@ -3,6 +3,7 @@
 use command_line::Word;
 use configuration::{ConfigFault, Key};
 use h2gw_setup::setting::{Setting, read_command_line, read_setting};
+use h2gw_setup::stamps::Stamp;
 use h2gw_setup::stops::{Stop, report};
 use std::alloc::{Allocator, Global};
 use std::cell::RefCell;
@@ -14,6 +15,7 @@ use std::io::{Eprint, ErrorKind, Print, Read, Seek, SeekFrom, Write};
 use std::net::{Ipv4Addr, SocketAddr};
 use std::rt::Files;
 use std::test::*;
+use std::time::{Clock, Duration};
 
 /// What a call answers that no test needs.
 fn unsupported() -> io::Error {
@@ -284,4 +286,44 @@ fn it_is_said_why_the_program_stops(rt: HostRuntime) {
     for (stop, text, status) in &stops {
         assert!(rt; says(rt.alloc(), stop, text, *status), "{text}");
     }
+}
+
+/// A clock that stands still, so many milliseconds after 1970 began, or tells nothing.
+#[derive(Drop)]
+struct Stopped {
+    millis: Option<u64>,
+}
+
+impl Clock for Stopped {
+    fn monotonic(&self) -> io::Result<Duration> {
+        Err(unsupported())
+    }
+
+    fn since_1970(&self) -> io::Result<Duration> {
+        match self.millis {
+            Some(millis) => Ok(Duration::from_millis(millis)),
+            None => Err(unsupported()),
+        }
+    }
+}
+
+/// Whether a time is stamped so.
+fn is_stamped(alloc: Global, millis: Option<u64>, text: &str) -> io::Result<bool> {
+    let stamp = Stamp::now(&Stopped { millis });
+    let found = format!(in alloc; "{stamp}")?;
+    Ok(found.as_str() == text)
+}
+
+#[test]
+fn times_are_stamped(rt: HostRuntime) -> Result<(), Fail> {
+    let stamps = [
+        (Some(0), "1970-01-01T00:00:00.000Z"),
+        (Some(1_700_000_000_123), "2023-11-14T22:13:20.123Z"),
+        (Some(1_709_251_199_999), "2024-02-29T23:59:59.999Z"),
+        (None, "-"),
+    ];
+    for (millis, text) in stamps {
+        assert!(rt; is_stamped(rt.alloc(), millis, text)?, "{text}");
+    }
+    Ok(())
 }

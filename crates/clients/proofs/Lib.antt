@@ -1,2 +1,3 @@
+pub mod Crowds
 pub mod Through
 pub mod Serving

@@ -1,9 +1,9 @@
 -- What serves a client stands for what passed through its sockets, from call to call.
-use Rattle.std.proofs.Common.{◌≡◌, ◌∷◌, ℕ, List, [], Bool, false, Option, None, Some, Result, Ok, Err, refl, sym, subst}
-use Rattle.std.specs.Prelude.{All, unwrap_or}
+use Rattle.std.proofs.Common.{◌≡◌, ◌∷◌, ◌∙◌, ℕ, List, [], Bool, false, Option, None, Some, Result, Ok, Err, refl, sym, ap, subst}
+use Rattle.std.specs.Prelude.{unwrap_or}
 use Rattle.std.proofs.lemmas.List.Elements.{All-nil, All-cons}
 use Rattle.model.specs.Setup.{Setup}
-use Rattle.driver.specs.Calls.{Call, Runs, WasServed, TurnLeaves}
+use Rattle.driver.specs.Calls.{Call, Along, Moves, WasServed, TurnLeaves}
 use Rattle.driver.specs.Calls.Call.{Aside}
 use Rattle.driver.specs.Services.{Served, Begins, turn_of, outcome_of}
 use Rattle.driver.specs.Worlds.{ends}
@@ -14,15 +14,21 @@ use Rattle.driver.specs.declared.services.ServeFault.TheVariants.{World}
 use Rattle.driver.specs.declared.world.WorldFault.{WorldFault}
 use Rattle.driver.proofs.Calling.{runs_none, runs_aside, served_aside, served_ended}
 use Rattle.sockets.specs.Moves.{Seen, Steps, seen_in}
+use Rattle.sockets.specs.Tokens.{number_of_client}
 use Rattle.sockets.specs.declared.connections.Sockets.{Sockets}
 use Rattle.theory_sockets.specs.Passed.{IsNew, IsServedBy}
 use Rattle.theory_sockets.proofs.Serving.{served}
-use Rattle.clients.specs.Serving.{IsAside, MovesAside, moves, hears, reads, heard_at, looks, HasEnded, StandsBy, IsServed, IsTold}
-use Rattle.clients.proofs.Through.{RunsThrough, WasServedThrough, runs_out, runs_in, was_in}
+use Rattle.clients.specs.Serving.{KeepsNumber, IsAside, MovesAside, moves, hears, reads, heard_at, looks, HasEnded, StandsBy, IsServed, IsTold}
+use Rattle.clients.proofs.Through.{RunsThrough, runs_out, runs_in, was_in}
 
 module _ {S : Type 0} (left held : S → Option (List ℕ)) where
   aside_none : (seen : Seen S) → MovesAside left held seen seen
   aside_none seen = record { calls = []; along = refl; asides = All-nil IsAside }
+
+  -- What it was called for nothing keeps the number of its client.
+  aside_number : (old : Seen S) (calls : List Call) (new : Seen S) → Along (λ before call behind. Steps left held call before behind) old calls new → new.number ≡ old.number
+  aside_number old [] new same = ap (λ (s : Seen S). s.number) same
+  aside_number old (call ∷ calls) new (mid, before, step) = step.number ∙ aside_number old calls mid before
 
   module _ {N Stream Listener : Type 0} where
     -- It begins.
@@ -75,6 +81,18 @@ module _ {S : Type 0} (left held : S → Option (List ℕ)) where
           (stands_failed service.outcome s.setup s.begun old new service (record service { outcome = Some (unwrap_or service.outcome (Err World)) }) fault step s.stands);
     }
 
+    -- ---- whose sockets they are
+
+    -- Calls keep the number of the client.
+    along_number : (first : Type 0) (begun : Sockets N S Stream Listener) (calls : List Call) (world : Sockets N S Stream Listener) → Along (Moves (moves left held) hears reads heard_at looks first) begun calls world → KeepsNumber begun world
+    along_number first begun [] world same = ap (λ (w : Sockets N S Stream Listener). number_of_client w.reporting) same
+    along_number first begun (call ∷ calls) world (mid, before, goes) = goes.moved.number ∙ along_number first begun calls mid before
+
+    stands_number : (o : Option (Result ServiceEnd ServeFault)) (setup : Setup) (begun now : Sockets N S Stream Listener) (service : Served) → StandsBy left held o setup begun service now → KeepsNumber begun now
+    stands_number None setup begun now service r = along_number (hears begun) begun r.calls now r.along
+    stands_number (Some outcome) setup begun now service e =
+        aside_number (seen_in e.before) e.aside.calls (seen_in now) e.aside.along ∙ along_number (hears begun) begun e.was.calls e.before e.was.along
+
     -- ---- a turn, which a world with these sockets inside it took
 
     module _ {V : Type 0} (inner : V → Sockets N S Stream Listener) (outer : Sockets N S Stream Listener → V) (is : (w : Sockets N S Stream Listener) → inner (outer w) ≡ w) where
@@ -118,6 +136,17 @@ module _ {S : Type 0} (left held : S → Option (List ℕ)) where
         pub turned : IsServed left held service (inner old) → IsServed left held service' (inner new)
         turned s = turned_by service.outcome refl s
 
+        number_by : (o : Option (Result ServiceEnd ServeFault)) → service.outcome ≡ o → IsServed left held service (inner old) → KeepsNumber (inner old) (inner new)
+        number_by None going s =
+            let runs = subst (λ o. StandsBy left held o s.setup s.begun service (inner old)) going s.stands in
+            let behind = stands_behind s.setup s.begun service' new result
+            (turns going s.setup (outer s.begun) (runs_out (moves left held) hears reads heard_at looks inner outer is s.setup false s.begun old service.gateway service.rooms whole runs)) in
+            stands_number (outcome_of result) s.setup s.begun (inner new) service' behind ∙ sym (stands_number service.outcome s.setup s.begun (inner old) service s.stands)
+        number_by (Some outcome) over s = ap (λ (v : V). number_of_client (inner v).reporting) (stays outcome over).2
+
+        pub turned_number : IsServed left held service (inner old) → KeepsNumber (inner old) (inner new)
+        turned_number s = number_by service.outcome refl s
+
     -- the same, with the worlds first
     pub taken : {V : Type 0} (old new : V) (inner : V → Sockets N S Stream Listener) (outer : Sockets N S Stream Listener → V) (is : (w : Sockets N S Stream Listener) → inner (outer w) ≡ w) (service service' : Served) (result : Result (Option ServiceEnd) ServeFault)
         → outer (inner old) ≡ old
@@ -126,6 +155,14 @@ module _ {S : Type 0} (left held : S → Option (List ℕ)) where
         → ((outcome : Result ServiceEnd ServeFault) → service.outcome ≡ Some outcome → (result ≡ turn_of outcome) × (service' ≡ service) × (new ≡ old)) → service'.outcome ≡ outcome_of result
         → IsServed left held service (inner old) → IsServed left held service' (inner new)
     taken old new inner outer is service service' result whole turns stays ended s = turned inner outer is service service' old new result whole turns stays ended s
+
+    pub taken_number : {V : Type 0} (old new : V) (inner : V → Sockets N S Stream Listener) (outer : Sockets N S Stream Listener → V) (is : (w : Sockets N S Stream Listener) → inner (outer w) ≡ w) (service service' : Served) (result : Result (Option ServiceEnd) ServeFault)
+        → outer (inner old) ≡ old
+        → (service.outcome ≡ None → (setup : Setup) (begun : V) → RunsThrough (moves left held) hears reads heard_at looks inner setup false begun old service.gateway service.rooms
+        → TurnLeaves (λ a call b. moves left held (inner a) call (inner b)) (λ v. hears (inner v)) (λ v. reads (inner v)) (λ v. heard_at (inner v)) (λ v. looks (inner v)) setup result begun new service'.gateway service'.rooms)
+        → ((outcome : Result ServiceEnd ServeFault) → service.outcome ≡ Some outcome → (result ≡ turn_of outcome) × (service' ≡ service) × (new ≡ old)) → service'.outcome ≡ outcome_of result
+        → IsServed left held service (inner old) → KeepsNumber (inner old) (inner new)
+    taken_number old new inner outer is service service' result whole turns stays ended s = turned_number inner outer is service service' old new result whole turns stays ended s
 
     -- ---- what it comes to
 

@@ -1,1 +1,3 @@
+pub mod Crowds
 pub mod Serving
+pub mod Turns

@@ -10,6 +10,7 @@ use Rattle.driver.specs.declared.services.ServeFault.TheVariants.{World}
 use Rattle.sockets.specs.Moves.{Seen, Steps, seen_in}
 use Rattle.sockets.specs.Queues.{HasQueued}
 use Rattle.sockets.specs.Idle.{could_read}
+use Rattle.sockets.specs.Tokens.{number_of_client}
 use Rattle.sockets.specs.declared.connections.Sockets.{Sockets}
 use Rattle.theory_sockets.specs.Passed.{IsNew, IsServedBy}
 
@@ -32,6 +33,10 @@ heard_at sockets = sockets.heard_at
 
 abbrev pub looks : {N S Stream Listener : Type 0} → Sockets N S Stream Listener → ℕ
 looks sockets = sockets.looks
+
+-- They are of the same client still, by its number.
+abbrev pub KeepsNumber : {N S Stream Listener : Type 0} → Sockets N S Stream Listener → Sockets N S Stream Listener → Type 0
+KeepsNumber old new = number_of_client new.reporting ≡ number_of_client old.reporting
 
 -- A service whose world failed between two turns: with that serving it ended, unless it had before.
 abbrev pub failed : Served → Served

@@ -1,13 +1,15 @@
 //! One client of many: it is served, and then left.
 
-ghost use Rattle.std.specs.Prelude.{◌+◌, ◌<◌, ◌≤◌, ◌≡◌, ◌^◌, is_none, not, if◌then◌else◌};
+ghost use Rattle.std.specs.Prelude.{◌+◌, ◌<◌, ◌≤◌, ◌≡◌, ◌^◌, None, false, is_none, not, if◌then◌else◌, IfOk, IfSome};
 ghost use Rattle.sockets.specs.declared.portion.Portion.TheVariants.{Whole};
 ghost use Rattle.gateway.specs.Setups.{setup_of, IsServable};
 ghost use Rattle.model.specs.Setup.{Setup};
 ghost use Rattle.driver.specs.Services.{Begins};
 ghost use Rattle.sockets.specs.Moves.{seen_in};
+ghost use Rattle.sockets.specs.Noting.{Notes};
+ghost use Rattle.sockets.specs.Tokens.{number_of_client, IsOfClient};
 ghost use Rattle.theory_sockets.specs.Passed.{IsNew};
-ghost use Rattle.clients.specs.Serving.{IsServed, IsTold};
+ghost use Rattle.clients.specs.Serving.{IsServed, IsTold, KeepsNumber};
 
 use crate::log::say_exchanges;
 use crate::pace::Pace;
@@ -51,6 +53,8 @@ pub struct Client<'a> {
     pub opened: u32,
     /// When something last came of it or was taken by it, as far as that was asked.
     moved: Instant,
+    // As long as it is served its sockets have its number, and so have their tokens.
+    ghost own: { ∥ IfSome serving (λ serving. number_of_client serving.value.sockets.world.sockets.reporting ≡ number) ∥₁ },
 }
 
 /// The sockets of a client, whose exchanges with upstreams are noted or aren't.
@@ -129,6 +133,8 @@ fn waits_for(alloc: Global, setting: &Setting) -> Option<Waits> {
 }
 
 impl<'a> Client<'a> {
+    ghost use Rattle.clients.specs.Crowds.{HasHeard, IsStill};
+
     /// A client that came, with this number, from 1 on. An error is the socket's or the clock's, or
     /// says that memory was refused.
     pub fn new(
@@ -138,6 +144,7 @@ impl<'a> Client<'a> {
         socket: Socket,
     ) -> io::Result<Client<'a>>
         requires { IsServable (setup_of common.now.setting.now.config) }
+        ensures { IfOk result (λ client. (client.number ≡ number) × (client.is_queued ≡ false)) }
     {
         let now = Instant::now(common.rt)?;
         let alloc = common.rt.alloc();
@@ -175,7 +182,10 @@ impl<'a> Client<'a> {
     }
 
     /// Notes what was reported of one of its sockets. An error says that it is lost.
-    pub fn hear(&mut self, report: &Report) -> Result<(), WorldFault> {
+    pub fn hear(&mut self, report: &Report) -> Result<(), WorldFault>
+        ensures still { IsStill self.old self.new }
+        ensures heard { HasHeard report.now self.old self.new }
+    {
         if let Some(serving) = &mut self.serving {
             return serving.hear(report);
         }
@@ -194,7 +204,9 @@ impl<'a> Client<'a> {
         buffer: &mut Buffer,
         is_told: bool,
         is_alone: bool,
-    ) -> (Remaining, Option<Outcome>) {
+    ) -> (Remaining, Option<Outcome>)
+        ensures { IsStill self.old self.new }
+    {
         let (number, address) = (self.number, self.address);
         let Some(serving) = &mut self.serving else {
             return (self.leave_on(common, buffer), None);
@@ -212,7 +224,10 @@ impl<'a> Client<'a> {
     }
 
     /// Ends serving it, and begins to leave it.
-    pub fn end(&mut self, common: &Common<'a>) {
+    pub fn end(&mut self, common: &Common<'a>)
+        ensures still { IsStill self.old self.new }
+        ensures over { self.new.serving ≡ None }
+    {
         let Some(serving) = self.serving.take() else {
             return;
         };
@@ -226,7 +241,10 @@ impl<'a> Client<'a> {
     }
 
     /// Goes on leaving it, without waiting.
-    fn leave_on(&mut self, common: &Common<'a>, buffer: &mut Buffer) -> Remaining {
+    fn leave_on(&mut self, common: &Common<'a>, buffer: &mut Buffer) -> Remaining
+        ensures still { IsStill self.old self.new }
+        ensures serving { self.new.serving ≡ self.old.serving }
+    {
         let Some(departure) = &mut self.departure else {
             return Remaining::Gone;
         };
@@ -243,7 +261,9 @@ impl<'a> Client<'a> {
     }
 
     /// Ends what a client sends that neither said nor took anything for so long.
-    pub fn watch(&mut self, now: Instant, most: Duration) {
+    pub fn watch(&mut self, now: Instant, most: Duration)
+        ensures { IsStill self.old self.new }
+    {
         let Some(serving) = &mut self.serving else {
             return;
         };
@@ -256,7 +276,9 @@ impl<'a> Client<'a> {
     }
 
     /// Ends connections to servers that were idle for so long.
-    pub fn end_idle(&mut self, now: Instant, most: Duration) {
+    pub fn end_idle(&mut self, now: Instant, most: Duration)
+        ensures { IsStill self.old self.new }
+    {
         if let Some(serving) = &mut self.serving {
             serving.end_idle(now, most);
         }
@@ -264,7 +286,9 @@ impl<'a> Client<'a> {
 
     /// Fails connections to servers that were waited for too long. The answer is whether one is. An
     /// error says that the client is lost.
-    pub fn look(&mut self, now: Instant, limits: &Limits) -> Result<bool, WorldFault> {
+    pub fn look(&mut self, now: Instant, limits: &Limits) -> Result<bool, WorldFault>
+        ensures { IsStill self.old self.new }
+    {
         match &mut self.serving {
             Some(serving) => serving.look(now, limits),
             None => Ok(false),
@@ -282,6 +306,7 @@ fn look_at<'a, N: Net + Clock, S: Wire>(
 ) -> Result<bool, WorldFault>
     ensures calls { sockets.new.world.calls ≡ sockets.old.world.calls }
     ensures failures { sockets.new.world.failures ≡ sockets.old.world.failures }
+    ensures number { KeepsNumber sockets.old.world.sockets sockets.new.world.sockets }
     ensures served { IsServed S.left S.held service.old sockets.old.world.sockets → IsServed S.left S.held service.new sockets.new.world.sockets }
 {
     match sockets.look(service.idle(), now, limits) {
@@ -304,6 +329,7 @@ impl<'a, N: Net + Clock, S: Wire> Serving<'a, N, S> {
         requires failures { sockets.world.failures ≡ 0 }
         requires service { (setup : Setup) × Begins setup service }
         requires new { IsNew (seen_in sockets.world.sockets) }
+        ensures { result.sockets ≡ sockets.entry }
     {
         Serving {
             service,
@@ -314,19 +340,28 @@ impl<'a, N: Net + Clock, S: Wire> Serving<'a, N, S> {
     }
 
     /// Ends connections to servers that were idle for so long.
-    fn end_idle(&mut self, now: Instant, most: Duration) {
+    fn end_idle(&mut self, now: Instant, most: Duration)
+        ensures { KeepsNumber self.old.sockets.world.sockets self.new.sockets.world.sockets }
+    {
         self.sockets.world.note_idle(self.service.idle(), now, most);
     }
 
     /// Fails connections to servers that were waited for too long. The answer is whether one is. An
     /// error says that the client is lost, with which serving it ends.
-    fn look(&mut self, now: Instant, limits: &Limits) -> Result<bool, WorldFault> {
+    fn look(&mut self, now: Instant, limits: &Limits) -> Result<bool, WorldFault>
+        ensures { KeepsNumber self.old.sockets.world.sockets self.new.sockets.world.sockets }
+    {
         look_at(&mut self.service, &mut self.sockets, now, limits)
     }
 
     /// Notes what was reported of one of its sockets. An error says that the client is lost, with
     /// which serving it ends.
-    fn hear(&mut self, report: &Report) -> Result<(), WorldFault> {
+    fn hear(&mut self, report: &Report) -> Result<(), WorldFault>
+        ensures number { KeepsNumber self.old.sockets.world.sockets self.new.sockets.world.sockets }
+        ensures noted { IsOfClient report.now (number_of_client self.old.sockets.world.sockets.reporting)
+            → Notes report.now self.old.sockets.world.sockets.client self.old.sockets.world.sockets.upstreams.items
+            self.new.sockets.world.sockets.client self.new.sockets.world.sockets.upstreams.items }
+    {
         match self.sockets.world.hear(report) {
             Ok(()) => Ok(()),
             Err(fault) => {
@@ -337,12 +372,16 @@ impl<'a, N: Net + Clock, S: Wire> Serving<'a, N, S> {
     }
 
     /// Whether something came of the client, or it took something, since that was last asked.
-    fn take_moved(&mut self) -> bool {
+    fn take_moved(&mut self) -> bool
+        ensures { KeepsNumber self.old.sockets.world.sockets self.new.sockets.world.sockets }
+    {
         self.sockets.world.take_moved()
     }
 
     /// Ends what the client sends.
-    fn end_client(&mut self) {
+    fn end_client(&mut self)
+        ensures { KeepsNumber self.old.sockets.world.sockets self.new.sockets.world.sockets }
+    {
         // A socket that can't be shut is over, which is reported.
         let _ = self.sockets.world.end_client();
     }
@@ -359,6 +398,7 @@ impl<'a, N: Net + Clock, S: Wire> Serving<'a, N, S> {
     /// Takes a round of turns, with a buffer that was lent for that.
     fn take_turns(&mut self, clock: &N, buffer: &mut Buffer, is_told: bool, is_alone: bool) -> Round
         ensures turns { self.old.turns ≤ self.new.turns + 16 }
+        ensures number { KeepsNumber self.old.sockets.world.sockets self.new.sockets.world.sockets }
     {
         buffer.limit(self.portion_for(is_alone));
         self.swap_buffer(buffer);
@@ -372,7 +412,8 @@ impl<'a, N: Net + Clock, S: Wire> Serving<'a, N, S> {
 
     /// Lends its world another buffer, and has its own back.
     fn swap_buffer(&mut self, buffer: &mut Buffer)
-        ensures { self.new.turns ≡ self.old.turns }
+        ensures turns { self.new.turns ≡ self.old.turns }
+        ensures number { KeepsNumber self.old.sockets.world.sockets self.new.sockets.world.sockets }
     {
         self.sockets.world.swap_buffer(buffer);
     }
@@ -390,7 +431,8 @@ impl<'a, N: Net + Clock, S: Wire> Serving<'a, N, S> {
 
     /// Its world was told of all that is reported.
     fn catch_up(&mut self)
-        ensures { self.new.turns ≡ self.old.turns }
+        ensures turns { self.new.turns ≡ self.old.turns }
+        ensures number { KeepsNumber self.old.sockets.world.sockets self.new.sockets.world.sockets }
     {
         self.sockets.world.catch_up();
     }
@@ -398,6 +440,7 @@ impl<'a, N: Net + Clock, S: Wire> Serving<'a, N, S> {
     /// Takes a round of turns, which is brief where others are there.
     fn take_round_for(&mut self, clock: &N, is_alone: bool) -> Round
         ensures turns { self.old.turns ≤ self.new.turns + 16 }
+        ensures number { KeepsNumber self.old.sockets.world.sockets self.new.sockets.world.sockets }
     {
         if is_alone {
             self.take_round()
@@ -409,6 +452,7 @@ impl<'a, N: Net + Clock, S: Wire> Serving<'a, N, S> {
     /// Takes turns while there is something left, so many in a row at most.
     fn take_round(&mut self) -> Round
         ensures turns { self.old.turns ≤ self.new.turns + 16 }
+        ensures number { KeepsNumber self.old.sockets.world.sockets self.new.sockets.world.sockets }
     {
         for _ in 0..ROUND {
             if let Some(round) = self.take_turn() {
@@ -422,6 +466,7 @@ impl<'a, N: Net + Clock, S: Wire> Serving<'a, N, S> {
     /// the client is read in the next one.
     fn take_brief_round(&mut self, clock: &N) -> Round
         ensures turns { self.old.turns ≤ self.new.turns + 16 }
+        ensures number { KeepsNumber self.old.sockets.world.sockets self.new.sockets.world.sockets }
     {
         let Ok(now) = Instant::now(clock) else {
             return self.take_round();
@@ -436,6 +481,7 @@ impl<'a, N: Net + Clock, S: Wire> Serving<'a, N, S> {
     /// most.
     fn take_turns_at(&mut self, clock: &N, pace: &mut Pace) -> Round
         ensures turns { self.old.turns ≤ self.new.turns + 16 }
+        ensures number { KeepsNumber self.old.sockets.world.sockets self.new.sockets.world.sockets }
     {
         for _ in 0..ROUND {
             if let Some(round) = self.take_turn_at(clock, pace) {
@@ -448,6 +494,7 @@ impl<'a, N: Net + Clock, S: Wire> Serving<'a, N, S> {
     /// Takes a turn, and notes when it ended. The answer is what the round came to, if it is over.
     fn take_turn_at(&mut self, clock: &N, pace: &mut Pace) -> Option<Round>
         ensures turns { self.old.turns ≤ self.new.turns + 1 }
+        ensures number { KeepsNumber self.old.sockets.world.sockets self.new.sockets.world.sockets }
     {
         let round = self.take_turn();
         let Ok(now) = Instant::now(clock) else {
@@ -463,6 +510,7 @@ impl<'a, N: Net + Clock, S: Wire> Serving<'a, N, S> {
     /// Takes a turn. The answer is what the round came to, if it is over.
     fn take_turn(&mut self) -> Option<Round>
         ensures turns { self.old.turns ≤ self.new.turns + 1 }
+        ensures number { KeepsNumber self.old.sockets.world.sockets self.new.sockets.world.sockets }
     {
         if self.turns == 0 {
             return Some(Round::Ended(Ok(ServiceEnd::Turns)));
@@ -480,7 +528,8 @@ impl<'a, N: Net + Clock, S: Wire> Serving<'a, N, S> {
     /// A turn of its service in its world.
     fn turn(&mut self) -> Result<Option<ServiceEnd>, ServeFault>
         requires { 0 < self.old.turns }
-        ensures { self.new.turns + 1 ≡ self.old.turns }
+        ensures turns { self.new.turns + 1 ≡ self.old.turns }
+        ensures number { KeepsNumber self.old.sockets.world.sockets self.new.sockets.world.sockets }
     {
         self.turns -= 1;
         self.service.take_turn(&mut self.sockets)

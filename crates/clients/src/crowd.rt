@@ -1,8 +1,11 @@
 //! Clients that are served at once.
 
-ghost use Rattle.std.specs.Prelude.{◌≡◌, ◌<◌, ◌≤◌, ◌==◌, ◌&&◌, nat_le, length, get_or, vec_len, IfErr, IfSome};
+ghost use Rattle.std.specs.Prelude.{◌≡◌, ◌<◌, ◌≤◌, ◌==◌, ◌&&◌, nat_le, length, map, get_or, vec_len, true, false, All, None, IfOk, IfErr, IfSome, IfNone, OnOk};
+ghost use Rattle.std.specs.List.{remove};
 ghost use Rattle.gateway.specs.Setups.{setup_of, IsServable};
 ghost use Rattle.h2gw_setup.specs.Stops.{status_of};
+ghost use Rattle.sockets.specs.Queues.{StandsIn};
+ghost use Rattle.clients.specs.Crowds.{AreRising, HaveCome, AreQueued, IsNowhere, IsStill, Stands, HasHeard, Changes, HasTurns, Hears};
 
 use crate::client::{Client, Common, Outcome, Remaining};
 use crate::entrance::{Came, Entrance, Why};
@@ -42,6 +45,34 @@ pub struct Crowd<'a> {
     buffer: Buffer,
     /// When it was last looked after clients that are idle or being left.
     ticked: Option<Instant>,
+    // A number names one client.
+    ghost rising: { AreRising clients.items },
+    ghost come: { HaveCome entrance.came clients.items },
+    // Who is marked as queued has turns yet.
+    ghost queued: { ∥ AreQueued queue.items clients.items ∥₁ },
+}
+
+/// What became of a client by its turns, or by a report.
+#[derive(Clone, Copy, Drop)]
+struct Turned {
+    /// Serving it ended by now.
+    has_ended: bool,
+    /// It is gone.
+    is_gone: bool,
+}
+
+impl Turned {
+    /// It is served on, or left on.
+    const GOES_ON: Turned = Turned {
+        has_ended: false,
+        is_gone: false,
+    };
+
+    /// Serving it ended, and it is left.
+    const ENDED: Turned = Turned {
+        has_ended: true,
+        is_gone: false,
+    };
 }
 
 /// Serves the connections of clients at a listener, so many at once as the setting says.
@@ -92,6 +123,8 @@ fn stop_of(error: &io::Error) -> Stop
 }
 
 impl<'a> Crowd<'a> {
+    ghost use Rattle.clients.specs.Turns.{left_by};
+
     /// No clients as yet, and room for as many as may be there at once. They come at this listener,
     /// which doesn't wait.
     pub fn new(common: &Common<'a>, listener: TcpListener) -> Result<Crowd<'a>, Stop>
@@ -196,7 +229,8 @@ impl<'a> Crowd<'a> {
 
     /// Heeds a report: of the entrance, or of a client, who then has turns.
     fn hear(&mut self, common: &Common<'a>, report: &Report) -> Result<(), Stop>
-        ensures { IfErr result (λ stop. 2 ≤ status_of stop) }
+        ensures status { IfErr result (λ stop. 2 ≤ status_of stop) }
+        ensures heard { Hears report.now self.old.clients.items self.new.clients.items }
     {
         let number = client_in(report.token());
         if number == 0 {
@@ -212,14 +246,11 @@ impl<'a> Crowd<'a> {
     /// Heeds a report of the client at a place, who then has turns.
     fn hear_of(&mut self, common: &Common<'a>, place: usize, report: &Report) -> Result<(), Stop>
         requires { place < vec_len self.old.clients }
-        ensures { IfErr result (λ stop. 2 ≤ status_of stop) }
+        ensures status { IfErr result (λ stop. 2 ≤ status_of stop) }
+        ensures heard { (other : Client) → Changes (get_or self.old.clients.items place other).number (HasHeard report.now) self.old.clients.items self.new.clients.items }
     {
-        let client = &mut self.clients[place];
-        if client.hear(report).is_err() {
-            self.leaving = self.leaving.saturating_add(1);
-            lose(common, client)?;
-        }
-        join(client, &mut self.queue)
+        let told = tell(common, &mut self.clients[place], report, &mut self.queue);
+        self.settle(place, told)
     }
 
     /// Lets in the clients that wait, as far as there are places.
@@ -253,11 +284,13 @@ impl<'a> Crowd<'a> {
     /// A client is there. It has turns once something is reported of it, but where it may have
     /// none: then it is left at once.
     fn keep(&mut self, mut client: Client<'a>, turns: u32) -> Result<(), Stop>
+        requires last { All (λ other. other.number < client.number) self.old.clients.items }
+        requires come { client.number ≤ self.old.entrance.came }
+        requires first { 0 < client.number }
+        requires queued { client.is_queued ≡ false }
         ensures { IfErr result (λ stop. 2 ≤ status_of stop) }
     {
-        if turns == 0 {
-            join(&mut client, &mut self.queue)?;
-        }
+        join_if(turns == 0, &mut client, &mut self.queue)?;
         match self.clients.push(client) {
             Ok(()) => Ok(()),
             Err(_) => Err(Stop::Memory),
@@ -290,10 +323,7 @@ impl<'a> Crowd<'a> {
         ensures { IfErr result (λ stop. 2 ≤ status_of stop) }
     {
         for _ in 0..self.queue.len() {
-            let Some(number) = self.queue.pop_front() else {
-                break;
-            };
-            if let Some(place) = place_of(number, &self.clients) {
+            if let Some(place) = next_in_turn(&mut self.clients, &mut self.queue) {
                 self.take_turns_of(common, place, is_told)?;
             }
         }
@@ -308,33 +338,100 @@ impl<'a> Crowd<'a> {
         is_told: bool,
     ) -> Result<(), Stop>
         requires { place < vec_len self.old.clients }
-        ensures { IfErr result (λ stop. 2 ≤ status_of stop) }
+        ensures status { IfErr result (λ stop. 2 ≤ status_of stop) }
+        ensures turns { (other : Client) → HasTurns (get_or self.old.clients.items place other).number self.old.clients.items self.new.clients.items }
     {
         let is_alone = self.clients.len() == 1;
-        let client = &mut self.clients[place];
-        client.is_queued = false;
-        let (remaining, outcome) = client.go_on(common, &mut self.buffer, is_told, is_alone);
-        if let Some(outcome) = outcome {
+        let turned = go_on(
+            common,
+            &mut self.clients[place],
+            &mut self.queue,
+            &mut self.buffer,
+            is_told,
+            is_alone,
+        );
+        self.settle(place, turned)
+    }
+
+    /// Heeds what became of the client at a place.
+    fn settle(&mut self, place: usize, turned: Result<Turned, Stop>) -> Result<(), Stop>
+        requires place { place < vec_len self.old.clients }
+        requires status { IfErr turned (λ stop. 2 ≤ status_of stop) }
+        ensures status { IfErr result (λ stop. 2 ≤ status_of stop) }
+        ensures clients { self.new.clients.items ≡ left_by turned place self.old.clients.items }
+    {
+        let turned = turned?;
+        if turned.has_ended {
             self.leaving = self.leaving.saturating_add(1);
-            note_end(common, client, &outcome)?;
         }
-        match remaining {
-            Remaining::More => join(client, &mut self.queue),
-            Remaining::Nothing => Ok(()),
-            Remaining::Gone => {
-                self.remove(place);
-                Ok(())
-            }
+        if turned.is_gone {
+            self.remove(place);
         }
+        Ok(())
     }
 
     /// The client at a place is gone.
     fn remove(&mut self, place: usize)
         requires { place < vec_len self.old.clients }
+        ensures { self.new.clients.items ≡ remove self.old.clients.items place }
     {
         self.clients.remove(place);
         self.leaving = self.leaving.saturating_sub(1);
     }
+}
+
+/// Tells a client what was reported of it. It has turns then. The answer is what became of it: where
+/// it is lost serving it has ended.
+fn tell<'a>(
+    common: &Common<'a>,
+    client: &mut Client<'a>,
+    report: &Report,
+    queue: &mut VecDeque<u32>,
+) -> Result<Turned, Stop>
+    ensures status { IfErr result (λ stop. 2 ≤ status_of stop) }
+    ensures stays { IfOk result (λ turned. turned.is_gone ≡ false) }
+    ensures number { client.new.number ≡ client.old.number }
+    ensures heard { HasHeard report.now client.old client.new }
+    ensures stands { Stands queue.old.items client.old → Stands queue.new.items client.new }
+    ensures grows { StandsIn queue.old.items queue.new.items }
+{
+    match client.hear(report) {
+        Ok(()) => {
+            join(client, queue)?;
+            Ok(Turned::GOES_ON)
+        }
+        Err(_) => {
+            lose(common, client)?;
+            join(client, queue)?;
+            Ok(Turned::ENDED)
+        }
+    }
+}
+
+/// A client has turns, and stands behind the others then if it has more. The answer is what became
+/// of it.
+fn go_on<'a>(
+    common: &Common<'a>,
+    client: &mut Client<'a>,
+    queue: &mut VecDeque<u32>,
+    buffer: &mut Buffer,
+    is_told: bool,
+    is_alone: bool,
+) -> Result<Turned, Stop>
+    ensures status { IfErr result (λ stop. 2 ≤ status_of stop) }
+    ensures number { client.new.number ≡ client.old.number }
+    ensures stands { Stands queue.old.items client.old → Stands queue.new.items client.new }
+    ensures grows { StandsIn queue.old.items queue.new.items }
+{
+    let (remaining, outcome) = client.go_on(common, buffer, is_told, is_alone);
+    if let Some(outcome) = &outcome {
+        note_end(common, client, outcome)?;
+    }
+    join_if(remaining == Remaining::More, client, queue)?;
+    Ok(Turned {
+        has_ended: outcome.is_some(),
+        is_gone: remaining == Remaining::Gone,
+    })
 }
 
 /// Whether it is time to look after clients again.
@@ -362,10 +459,24 @@ fn note_end(common: &Common<'_>, client: &Client<'_>, outcome: &Outcome) -> Resu
     Ok(())
 }
 
+/// Takes the client that is next in turn off the queue. The answer is its place, if it is there
+/// still.
+fn next_in_turn(clients: &mut Vec<Client<'_>>, queue: &mut VecDeque<u32>) -> Option<usize>
+    requires { AreRising clients.old.items }
+    ensures within { IfSome result (λ place. place < vec_len clients.new) }
+    ensures numbers { map (λ client. client.number) clients.new.items ≡ map (λ client. client.number) clients.old.items }
+    ensures queued { AreQueued queue.old.items clients.old.items → AreQueued queue.new.items clients.new.items }
+{
+    let place = place_of(queue.pop_front()?, clients)?;
+    clients[place].is_queued = false;
+    Some(place)
+}
+
 /// The place of a client among clients by rising number.
 fn place_of(number: u32, clients: &[Client<'_>]) -> Option<usize>
     ensures within { IfSome result (λ place. place < length clients.now) }
     ensures found { IfSome result (λ place. (other : Client) → (get_or clients.now place other).number ≡ number) }
+    ensures absent { IfNone result (AreRising clients.now → IsNowhere number clients.now) }
 {
     clients
         .binary_search_by_key(&number, |client| client.number)
@@ -374,13 +485,34 @@ fn place_of(number: u32, clients: &[Client<'_>]) -> Option<usize>
 
 /// A client joins those that have something left, if it doesn't stand among them.
 fn join(client: &mut Client<'_>, queue: &mut VecDeque<u32>) -> Result<(), Stop>
-    ensures { IfErr result (λ stop. 2 ≤ status_of stop) }
+    ensures status { IfErr result (λ stop. 2 ≤ status_of stop) }
+    ensures number { client.new.number ≡ client.old.number }
+    ensures serving { client.new.serving ≡ client.old.serving }
+    ensures joined { OnOk result (client.new.is_queued ≡ true) }
+    ensures stands { Stands queue.old.items client.old → Stands queue.new.items client.new }
+    ensures grows { StandsIn queue.old.items queue.new.items }
 {
     if client.is_queued {
         return Ok(());
     }
+    queue.push_back(client.number).map_err(|_| Stop::Memory)?;
     client.is_queued = true;
-    queue.push_back(client.number).map_err(|_| Stop::Memory)
+    Ok(())
+}
+
+/// A client joins them where it has something left.
+fn join_if(has_more: bool, client: &mut Client<'_>, queue: &mut VecDeque<u32>) -> Result<(), Stop>
+    ensures status { IfErr result (λ stop. 2 ≤ status_of stop) }
+    ensures number { client.new.number ≡ client.old.number }
+    ensures joined { has_more ≡ true → OnOk result (client.new.is_queued ≡ true) }
+    ensures stands { Stands queue.old.items client.old → Stands queue.new.items client.new }
+    ensures grows { StandsIn queue.old.items queue.new.items }
+{
+    if has_more {
+        join(client, queue)
+    } else {
+        Ok(())
+    }
 }
 
 /// Looks after all of these. The answer is how many are lost.
@@ -390,7 +522,9 @@ fn look_after_all<'a>(
     now: Instant,
     queue: &mut VecDeque<u32>,
 ) -> Result<usize, Stop>
-    ensures { IfErr result (λ stop. 2 ≤ status_of stop) }
+    ensures status { IfErr result (λ stop. 2 ≤ status_of stop) }
+    ensures numbers { map (λ client. client.number) clients.new ≡ map (λ client. client.number) clients.old }
+    ensures queued { AreQueued queue.old.items clients.old → AreQueued queue.new.items clients.new }
 {
     let mut lost: usize = 0;
     for client in clients {
@@ -410,7 +544,10 @@ fn look_after<'a>(
     now: Instant,
     queue: &mut VecDeque<u32>,
 ) -> Result<bool, Stop>
-    ensures { IfErr result (λ stop. 2 ≤ status_of stop) }
+    ensures status { IfErr result (λ stop. 2 ≤ status_of stop) }
+    ensures number { client.new.number ≡ client.old.number }
+    ensures stands { Stands queue.old.items client.old → Stands queue.new.items client.new }
+    ensures grows { StandsIn queue.old.items queue.new.items }
 {
     if client.is_left() {
         join(client, queue)?;
@@ -432,7 +569,9 @@ fn look_after<'a>(
 }
 
 /// A client that is idle for too long is ended, and so are connections to servers that are.
-fn end_idle(setting: &Setting, client: &mut Client<'_>, now: Instant) {
+fn end_idle(setting: &Setting, client: &mut Client<'_>, now: Instant)
+    ensures { IsStill client.old client.new }
+{
     if setting.idle > 0 {
         client.watch(now, Duration::from_secs(u64::from(setting.idle)));
     }
@@ -443,7 +582,9 @@ fn end_idle(setting: &Setting, client: &mut Client<'_>, now: Instant) {
 
 /// A client is lost.
 fn lose<'a>(common: &Common<'a>, client: &mut Client<'a>) -> Result<(), Stop>
-    ensures { IfErr result (λ stop. 2 ≤ status_of stop) }
+    ensures status { IfErr result (λ stop. 2 ≤ status_of stop) }
+    ensures still { IsStill client.old client.new }
+    ensures over { client.new.serving ≡ None }
 {
     client.end(common);
     note_end(common, client, &Err(ServeFault::World))

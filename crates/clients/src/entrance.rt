@@ -1,8 +1,9 @@
 //! Where clients come in.
 
-ghost use Rattle.std.specs.Prelude.{◌≡◌, ◌≤◌, ◌&&◌, IfErr, not, nat_le, nat_lt, true, false};
+ghost use Rattle.std.specs.Prelude.{◌≡◌, ◌+◌, ◌<◌, ◌≤◌, ◌&&◌, IfOk, IfErr, not, nat_le, nat_lt, true, false};
 ghost use Rattle.gateway.specs.Setups.{setup_of, IsServable};
 ghost use Rattle.h2gw_setup.specs.Stops.{status_of};
+ghost use Rattle.clients.specs.Crowds.{IsNewcomer};
 
 use crate::client::{Client, Common};
 use h2gw_setup::setting::Setting;
@@ -89,7 +90,9 @@ pub enum Why {
 
 impl Entrance {
     /// The listener of the clients of a setting, at which nobody came yet.
-    pub fn new(listener: TcpListener, setting: &Setting, registry: &Registry) -> Entrance {
+    pub fn new(listener: TcpListener, setting: &Setting, registry: &Registry) -> Entrance
+        ensures { (result.came ≡ 0) × (result.most ≡ setting.now.connections) }
+    {
         Entrance {
             listener,
             is_watched: false,
@@ -132,7 +135,9 @@ impl Entrance {
 
     /// Has those that come reported where there is a place for one more, and else not.
     pub fn watch(&mut self, registry: &Registry, clients: usize) -> Result<(), Stop>
-        ensures { IfErr result (λ stop. 2 ≤ status_of stop) }
+        ensures status { IfErr result (λ stop. 2 ≤ status_of stop) }
+        ensures came { self.new.came ≡ self.old.came }
+        ensures most { self.new.most ≡ self.old.most }
     {
         let is_wanted = self.has_place(clients);
         if is_wanted == self.is_watched {
@@ -164,7 +169,10 @@ impl Entrance {
     /// Who comes next.
     pub fn accept<'a>(&mut self, common: &Common<'a>) -> Result<Came<'a>, Stop>
         requires { IsServable (setup_of common.now.setting.now.config) }
-        ensures { IfErr result (λ stop. 2 ≤ status_of stop) }
+        ensures status { IfErr result (λ stop. 2 ≤ status_of stop) }
+        ensures counts { self.old.came ≤ self.new.came }
+        ensures most { self.new.most ≡ self.old.most }
+        ensures comes { self.old.came < self.old.most → IfOk result (IsNewcomer self.old.came self.new.came) }
     {
         match self.listener.accept() {
             Ok((socket, address)) => self.let_in(common, socket, address),
@@ -187,9 +195,15 @@ impl Entrance {
         error.kind() == ErrorKind::ConnectionAborted || self.places > 1 && is_of_connection(error)
     }
 
-    /// One more came.
-    fn count(&mut self) {
-        self.came = self.came.saturating_add(1);
+    /// One more came, of those that may.
+    fn count(&mut self)
+        ensures counts { self.old.came ≤ self.new.came }
+        ensures most { self.new.most ≡ self.old.most }
+        ensures one { self.old.came < self.old.most → self.new.came ≡ self.old.came + 1 }
+    {
+        if self.came < self.most {
+            self.came += 1;
+        }
     }
 
     /// A client that came, if it can be served.
@@ -200,7 +214,10 @@ impl Entrance {
         address: SocketAddr,
     ) -> Result<Came<'a>, Stop>
         requires { IsServable (setup_of common.now.setting.now.config) }
-        ensures { IfErr result (λ stop. 2 ≤ status_of stop) }
+        ensures status { IfErr result (λ stop. 2 ≤ status_of stop) }
+        ensures counts { self.old.came ≤ self.new.came }
+        ensures most { self.new.most ≡ self.old.most }
+        ensures comes { self.old.came < self.old.most → IfOk result (IsNewcomer self.old.came self.new.came) }
     {
         self.count();
         match Client::new(common, self.came, address, socket) {
@@ -218,7 +235,10 @@ impl Entrance {
     /// that its connection can be accepted and closed. Where that can't be either, no client is let
     /// in for a while.
     fn refuse<'a>(&mut self, common: &Common<'a>, error: &io::Error) -> Result<Came<'a>, Stop>
-        ensures { IfErr result (λ stop. 2 ≤ status_of stop) }
+        ensures status { IfErr result (λ stop. 2 ≤ status_of stop) }
+        ensures counts { self.old.came ≤ self.new.came }
+        ensures most { self.new.most ≡ self.old.most }
+        ensures comes { IfOk result (IsNewcomer self.old.came self.new.came) }
     {
         let Some(why) = why_of(error) else {
             return Err(Stop::Accept);

@@ -3,7 +3,7 @@
 ghost use Rattle.std.specs.Prelude.{◌≡◌, ◌+◌, ◌*◌, ◌<◌, ◌≤◌, ◌↔◌, ◌-◌, IsTrue, IfSome, Some, None, [], vec_len, false, true, unwrap_or, OnOk, OnErr, if◌then◌else◌};
 ghost use Rattle.std.specs.Duration.{as_nanos};
 ghost use Rattle.std.specs.Time.{instant_nanos};
-ghost use Rattle.clients.specs.Serving.{StaysServed, FailsServed};
+ghost use Rattle.clients.specs.Serving.{KeepsNumber, StaysServed, FailsServed};
 
 use driver::WorldFault;
 use h2gw_setup::setting::Setting;
@@ -163,6 +163,7 @@ impl Waits {
     ) -> Result<bool, WorldFault>
         ensures calls { world.new.calls ≡ world.old.calls }
         ensures failures { world.new.failures ≡ world.old.failures }
+        ensures number { KeepsNumber world.old.sockets world.new.sockets }
         ensures stays { OnOk result (StaysServed S.left S.held world.old.sockets world.new.sockets) }
         ensures fails { OnErr result (FailsServed S.left S.held world.old.sockets world.new.sockets) }
     {
@@ -180,6 +181,7 @@ fn look_all<N: Net + Clock, S: Wire>(
 ) -> Result<bool, WorldFault>
     ensures calls { world.new.calls ≡ world.old.calls }
     ensures failures { world.new.failures ≡ world.old.failures }
+    ensures number { KeepsNumber world.old.sockets world.new.sockets }
     ensures stays { OnOk result (StaysServed S.left S.held world.old.sockets world.new.sockets) }
     ensures fails { OnErr result (FailsServed S.left S.held world.old.sockets world.new.sockets) }
 {
@@ -200,6 +202,7 @@ fn give_up_if<N: Net + Clock, S: Wire>(
 ) -> Result<bool, WorldFault>
     ensures calls { world.new.calls ≡ world.old.calls }
     ensures failures { world.new.failures ≡ world.old.failures }
+    ensures number { KeepsNumber world.old.sockets world.new.sockets }
     ensures stays { OnOk result (StaysServed S.left S.held world.old.sockets world.new.sockets) }
     ensures fails { OnErr result (FailsServed S.left S.held world.old.sockets world.new.sockets) }
 {

@@ -7,7 +7,7 @@ ghost use Rattle.effects.specs.Views.{output_of};
 ghost use Rattle.driver.specs.Worlds.{AddsEvent, AddsHanded, SaysOver, KeepsRooms, with_outputs};
 ghost use Rattle.driver.specs.Calls.{HearsIdleFirst};
 ghost use Rattle.driver.specs.Calls.Call.{Asked, Applied};
-ghost use Rattle.clients.specs.Serving.{StaysServed, FailsServed};
+ghost use Rattle.clients.specs.Serving.{KeepsNumber, StaysServed, FailsServed};
 
 use crate::waits::{Limits, Waits};
 use driver::{Next, World, WorldFault};
@@ -199,6 +199,7 @@ impl<'a, C: Clock, N: Net + Clock, S: Wire> Watched<'a, C, SocketWorld<'a, N, S>
     pub fn look(&mut self, idle: &[u32], now: Instant, limits: &Limits) -> Result<bool, WorldFault>
         ensures calls { self.new.world.calls ≡ self.old.world.calls }
         ensures failures { self.new.world.failures ≡ self.old.world.failures }
+        ensures number { KeepsNumber self.old.world.sockets self.new.world.sockets }
         ensures stays { OnOk result (StaysServed S.left S.held self.old.world.sockets self.new.world.sockets) }
         ensures fails { OnErr result (FailsServed S.left S.held self.old.world.sockets self.new.world.sockets) }
     {

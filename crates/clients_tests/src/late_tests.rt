@@ -108,7 +108,7 @@ impl Server {
 
 /// A client that asked, and ends once it has read what ends so.
 #[derive(Drop)]
-struct Asker {
+pub(crate) struct Asker {
     socket: TcpStream,
     read: Vec<u8>,
     wanted: &'static [u8],
@@ -116,7 +116,7 @@ struct Asker {
 
 impl Asker {
     /// It reads what is there.
-    fn go_on(&mut self) -> io::Result<()> {
+    pub(crate) fn go_on(&mut self) -> io::Result<()> {
         let mut room = [0u8; 1024];
         if let Ok(count) = self.socket.read(&mut room) {
             self.read.extend_from_slice(&room[..count])?;
@@ -128,13 +128,13 @@ impl Asker {
     }
 
     /// Whether it has read what it wants.
-    fn has_answer(&self) -> bool {
+    pub(crate) fn has_answer(&self) -> bool {
         self.read.as_slice().ends_with(self.wanted)
     }
 }
 
 /// A listener that doesn't wait.
-fn listener_of(host: &HostRuntime) -> io::Result<TcpListener> {
+pub(crate) fn listener_of(host: &HostRuntime) -> io::Result<TcpListener> {
     let listener = TcpListener::bind(host, SocketAddr::from((Ipv4Addr::LOCALHOST, 0)))?;
     listener.set_nonblocking(true)?;
     Ok(listener)
@@ -142,8 +142,18 @@ fn listener_of(host: &HostRuntime) -> io::Result<TcpListener> {
 
 /// A client that has asked at this address, and wants what ends so.
 fn asker_at(host: &HostRuntime, here: SocketAddr, wanted: &'static [u8]) -> io::Result<Asker> {
+    asker_with(host, here, REQUEST, wanted)
+}
+
+/// A client that has sent these octets to this address, and wants what ends so.
+pub(crate) fn asker_with(
+    host: &HostRuntime,
+    here: SocketAddr,
+    octets: &[u8],
+    wanted: &'static [u8],
+) -> io::Result<Asker> {
     let mut socket = TcpStream::connect(host, here)?;
-    socket.write_all(REQUEST)?;
+    socket.write_all(octets)?;
     socket.set_nonblocking(true)?;
     Ok(Asker {
         socket,

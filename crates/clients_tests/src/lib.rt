@@ -14,3 +14,5 @@ mod late_tests;
 mod pace_tests;
 #[cfg(test)]
 mod served_tests;
+#[cfg(test)]
+mod turns_tests;

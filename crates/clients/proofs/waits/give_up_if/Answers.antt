@@ -10,3 +10,9 @@ returns-after-wait-clause-stays g c = λ service served.
 pub returns-in-Err-clause-fails : goal.returns-in-Err-clause-fails
 returns-in-Err-clause-fails g c = λ service served.
     fails_aside g.S.Socket.left g.S.Socket.held service (failed service) c.args.world.now.sockets c.give_up.new.self.sockets _ refl (c.give_up.ensures.moved_by (Err _)) served
+
+pub returns-after-wait-clause-number : goal.returns-after-wait-clause-number
+returns-after-wait-clause-number g c = (c.give_up.ensures.moved_by (Ok tt)).number
+
+pub returns-in-Err-clause-number : goal.returns-in-Err-clause-number
+returns-in-Err-clause-number g c = (c.give_up.ensures.moved_by (Ok tt)).number

@@ -14,6 +14,8 @@ ghost use Rattle.sockets.specs.Moves.{Steps, seen_in};
 ghost use Rattle.sockets.specs.Portions.{FitsPortion};
 ghost use Rattle.driver.specs.Calls.{HearsIdleFirst};
 ghost use Rattle.driver.specs.Calls.Call.{Asked, Applied, Aside};
+ghost use Rattle.driver.specs.declared.world.Next.TheVariants.{Happened};
+ghost use Rattle.effects.specs.declared.events.Event.TheVariants.{Drain};
 ghost use Rattle.sockets.specs.Sides.{no_news, lost_news, IsBegun, Goes};
 
 use crate::buffer::Buffer;
@@ -47,6 +49,8 @@ pub struct SocketWorld<'a, N: Net + Clock, S> {
     is_quiet: bool,
     /// Something came of the client, or its socket took something, since that was last asked.
     has_moved: bool,
+    /// Its next `next` tells that the operator wants the end.
+    is_to_drain: bool,
 }
 
 impl<'a, N: Net + Clock, S: Wire> SocketWorld<'a, N, S> {
@@ -101,6 +105,7 @@ impl<'a, N: Net + Clock, S: Wire> SocketWorld<'a, N, S> {
     fn of(sockets: Sockets<'a, N, S>) -> SocketWorld<'a, N, S>
         ensures counts { (result.calls ≡ 0) × (result.failures ≡ 0) }
         ensures sockets { result.sockets ≡ sockets.entry }
+        ensures unasked { result.is_to_drain ≡ false }
     {
         SocketWorld {
             sockets,
@@ -108,6 +113,7 @@ impl<'a, N: Net + Clock, S: Wire> SocketWorld<'a, N, S> {
             failures: 0,
             is_quiet: false,
             has_moved: false,
+            is_to_drain: false,
         }
     }
 
@@ -232,6 +238,15 @@ impl<'a, N: Net + Clock, S: Wire> SocketWorld<'a, N, S> {
         self.sockets.client.end()
     }
 
+    /// The operator wants the end: the next `next` tells that, as `Event::Drain`, before anything
+    /// else that is there. It is told once, and again only behind another call.
+    pub fn drain(&mut self)
+        ensures stays { self.new ≡ record self.old { is_to_drain = true; is_quiet = false } }
+    {
+        self.is_to_drain = true;
+        self.is_quiet = false;
+    }
+
     /// Leaves the client, as `finish` does, but without waiting, beside others; the connections to
     /// upstreams are closed.
     pub fn leave(self, now: Instant) -> Departure<S>
@@ -315,8 +330,17 @@ impl<'a, N: Net + Clock, S: Wire> World for SocketWorld<'a, N, S> {
         // Of the client come no more octets than it is read by at a time.
         ensures portion { self.new.sockets.buffer.portion ≡ self.old.sockets.buffer.portion }
         ensures within { IfOk (told_by result) (λ event. FitsPortion self.old.sockets.buffer.portion event) }
+        // Where the operator wants the end that comes first, and nothing else is done.
+        ensures drains { self.old.is_to_drain ≡ true → (result ≡ Ok (Happened Drain)) × (self.new.sockets ≡ self.old.sockets) }
+        // It is told once.
+        ensures drained { self.new.is_to_drain ≡ false }
     {
         self.calls += 1;
+        if self.is_to_drain {
+            self.is_to_drain = false;
+            self.is_quiet = false;
+            return Ok(Next::Happened(Event::Drain));
+        }
         match self.sockets.find_next(rooms, idle) {
             Ok(Some(event)) => {
                 self.is_quiet = false;

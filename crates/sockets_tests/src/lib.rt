@@ -1,5 +1,5 @@
 //! Tests of `sockets` over connections of the loopback: one side, an upstream, a client's world,
-//! worlds beside others, and how a client is left.
+//! worlds beside others, drains, and how a client is left.
 //!
 //! There is nothing here but tests. They stand apart from `sockets` so that it isn't proved a
 //! second time together with them.
@@ -9,6 +9,8 @@
 mod behind_tests;
 #[cfg(test)]
 mod bodies_tests;
+#[cfg(test)]
+mod drain_tests;
 #[cfg(test)]
 mod leaving_tests;
 #[cfg(test)]

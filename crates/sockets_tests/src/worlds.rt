@@ -58,6 +58,7 @@ pub(crate) enum Came {
     ClientEnd,
     UpEnd(u32),
     UpFailed(u32),
+    Drain,
     Nothing,
     Other,
 }
@@ -74,6 +75,7 @@ pub(crate) fn came_next(world: &mut PlainWorld<'_>, rooms: &[(u32, usize)], idle
         Ok(Next::Happened(Event::ClientEnd)) => Came::ClientEnd,
         Ok(Next::Happened(Event::UpEnd(number))) => Came::UpEnd(number),
         Ok(Next::Happened(Event::UpFailed(number))) => Came::UpFailed(number),
+        Ok(Next::Happened(Event::Drain)) => Came::Drain,
         Ok(Next::Nothing) => Came::Nothing,
         _ => Came::Other,
     }

@@ -93,7 +93,7 @@ fn a_kept_connection_has_one_exchange_after_another(rt: HostRuntime) -> Result<(
     // What comes of an idle connection belongs to no exchange.
     exchanges.hear(1, ANSWER)?;
     exchanges.end(1)?;
-    exchanges.fail(1)?;
+    exchanges.fail(1, None)?;
     assert_none_over(&rt, &mut exchanges);
     Ok(())
 }
@@ -125,12 +125,13 @@ fn an_end_ends_an_exchange(rt: HostRuntime) -> Result<(), Fail> {
 #[test]
 fn a_failure_ends_an_exchange(rt: HostRuntime) -> Result<(), Fail> {
     let mut refused = begun(rt.alloc(), GET)?;
-    refused.fail(1)?;
-    assert_over(&rt, &mut refused, End::Refused, None, GET.len(), 0);
+    refused.fail(1, Some(111))?;
+    let end = End::Refused(Some(111));
+    assert_over(&rt, &mut refused, end, None, GET.len(), 0);
     let mut reset = begun(rt.alloc(), GET)?;
     reset.take(1);
-    reset.fail(1)?;
-    assert_over(&rt, &mut reset, End::Reset, None, GET.len(), 0);
+    reset.fail(1, None)?;
+    assert_over(&rt, &mut reset, End::Reset(None), None, GET.len(), 0);
     let mut malformed = begun(rt.alloc(), GET)?;
     malformed.hear(1, b"SMTP ready\r\n\r\n")?;
     assert_over(&rt, &mut malformed, End::Malformed, None, GET.len(), 14);

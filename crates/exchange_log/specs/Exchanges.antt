@@ -1,5 +1,5 @@
 -- What a log notes of an exchange with an upstream, and what it tells of it.
-use Rattle.std.specs.Prelude.{◌≡◌, ◌≢◌, ℕ, ◌+◌, ◌-◌, ◌<◌, ◌^◌, ◌⊎◌, min, Bool, true, false, List, [], ◌∷◌, ◌++◌, All}
+use Rattle.std.specs.Prelude.{◌≡◌, ◌≢◌, ℕ, ℤ, ◌+◌, ◌-◌, ◌<◌, ◌^◌, ◌⊎◌, min, Bool, true, false, List, [], ◌∷◌, ◌++◌, All}
 use Rattle.std.specs.Prelude.{length, codes, Option, Some, None, nat_lt, if◌then◌else◌, ◌||◌, MatchOption}
 use Rattle.std.specs.Option.{option_or, option_map}
 use Rattle.std.specs.Ordering.{nat_cmp}
@@ -73,16 +73,16 @@ IsEndedBy e NoResponse = IsEnd reader.Short e.reader × (e.received ≡ 0)
 IsEndedBy e EndedEarly = IsEnd reader.Short e.reader × (0 < e.received)
 IsEndedBy e end = ⊥
 
--- how it ends where the connection fails
-abbrev pub end_by_failure : Exchange → End
-end_by_failure e = if e.is_taken || nat_lt 0 e.received then Reset else Refused
+-- how it ends where the connection fails, by an error of which the system told the number or didn't
+abbrev pub end_by_failure : Option ℤ → Exchange → End
+end_by_failure error e = if e.is_taken || nat_lt 0 e.received then Reset error else Refused error
 
 -- ---- connections
 
 -- How an exchange ends with its connection, by what becomes of that.
 abbrev pub IsOverBy : Fate → Exchange → End → Type 0
 IsOverBy Ended e end = IsEndedBy e end
-IsOverBy Failed e end = end ≡ end_by_failure e
+IsOverBy (Failed error) e end = end ≡ end_by_failure error e
 IsOverBy Late e end = end ≡ TimedOut
 IsOverBy Closed e end = end ≡ GivenUp
 

@@ -19,10 +19,10 @@ pub enum End {
     /// The response is whole.
     Whole,
     /// The connection failed before its side took an octet and before one came: there is no server,
-    /// or none that takes connections.
-    Refused,
-    /// The connection failed.
-    Reset,
+    /// or none that takes connections. The system may tell the number of an error.
+    Refused(Option<i32>),
+    /// The connection failed, likewise.
+    Reset(Option<i32>),
     /// The server was waited for too long.
     TimedOut,
     /// The server ended the connection behind a part of a response.
@@ -248,14 +248,15 @@ impl Exchange {
         }
     }
 
-    /// How it ends where the connection fails.
-    pub fn fail(&self) -> End
-        ensures { result ≡ end_by_failure self.now }
+    /// How it ends where the connection fails, by an error of which the system told the number or
+    /// didn't.
+    pub fn fail(&self, error: Option<i32>) -> End
+        ensures { result ≡ end_by_failure error self.now }
     {
         if self.is_taken || self.received > 0 {
-            End::Reset
+            End::Reset(error)
         } else {
-            End::Refused
+            End::Refused(error)
         }
     }
 }

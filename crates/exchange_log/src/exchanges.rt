@@ -23,8 +23,8 @@ pub struct LoggedConnection {
 pub enum Fate {
     /// Its upstream ended it.
     Ended,
-    /// It failed.
-    Failed,
+    /// It failed, by an error of which the system told the number or didn't.
+    Failed(Option<i32>),
     /// Its upstream was waited for too long.
     Late,
     /// The gateway closed it.
@@ -59,7 +59,7 @@ fn end_by(fate: Fate, exchange: &Exchange) -> End
 {
     match fate {
         Fate::Ended => exchange.end(),
-        Fate::Failed => exchange.fail(),
+        Fate::Failed(error) => exchange.fail(error),
         Fate::Late => End::TimedOut,
         Fate::Closed => End::GivenUp,
     }
@@ -202,12 +202,13 @@ impl Exchanges {
         self.finish(k, Fate::Ended)
     }
 
-    /// A connection failed. An `Err` says that memory was refused.
-    pub fn fail(&mut self, k: u32) -> Result<(), AllocError>
+    /// A connection failed, by an error of which the system told the number or didn't. An `Err` says
+    /// that memory was refused.
+    pub fn fail(&mut self, k: u32, error: Option<i32>) -> Result<(), AllocError>
         ensures { OnOk result (EndedAt k (λ exchange end. end
-            ≡ end_by_failure exchange) self.old.connections self.new.connections self.old.over.items self.new.over.items) }
+            ≡ end_by_failure error exchange) self.old.connections self.new.connections self.old.over.items self.new.over.items) }
     {
-        self.finish(k, Fate::Failed)
+        self.finish(k, Fate::Failed(error))
     }
 
     /// A connection failed since its upstream was waited for too long. An `Err` says that memory was

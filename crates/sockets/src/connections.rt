@@ -76,6 +76,9 @@ pub(crate) struct Sockets<'a, N: Net + Clock, S> {
     looks: u64,
     /// What that number was when octets of the client came last.
     heard_at: u64,
+    /// The system's number of the error by which a connection failed, if it told one: of the one
+    /// whose failure was told last.
+    pub(crate) failure: Option<i32>,
 }
 
 impl<'a, N: Net + Clock, S: Wire> Sockets<'a, N, S> {
@@ -109,6 +112,7 @@ impl<'a, N: Net + Clock, S: Wire> Sockets<'a, N, S> {
             turns: 0,
             looks: 1,
             heard_at: 0,
+            failure: None,
         })
     }
 
@@ -343,6 +347,7 @@ impl<'a, N: Net + Clock, S: Wire> Sockets<'a, N, S> {
         let upstream = &mut self.upstreams[place];
         let event = self.buffer.read_in_turn(self.alloc, upstream, room)?;
         if is_failure(&event) {
+            self.failure = upstream.error();
             self.upstreams.remove(place);
         } else {
             join_ready(upstream, &mut self.ready)?;
@@ -703,11 +708,11 @@ impl<'a, N: Net + Clock, S: Wire> Sockets<'a, N, S> {
         ensures new { IfOk result (IsNew (number_of_client self.now.reporting) k address) }
         ensures unmarked { IfOk result (λ upstream. (upstream.is_queued ≡ false) × (upstream.is_listed ≡ false)) }
     {
-        let side = match address {
+        let (side, error) = match address {
             Some(address) => self.connect(k, address)?,
-            None => None,
+            None => (None, None),
         };
-        Ok(Upstream::new(k, address, side))
+        Ok(Upstream::new(k, address, side, error))
     }
 
     /// Puts octets out to an upstream, if it is open.
@@ -729,19 +734,25 @@ impl<'a, N: Net + Clock, S: Wire> Sockets<'a, N, S> {
         list(upstream, &mut self.ready, &mut self.writes)
     }
 
-    /// Begins to connect to an address.
-    fn connect(&self, k: u32, address: SocketAddr) -> Result<Option<Side<S>>, WorldFault>
-        ensures { IfOk result (λ side. IfSome side (IsBegun (token_number (number_of_client self.now.reporting) k))) }
+    /// Begins to connect to an address. Where that can't be the system may tell the number of an
+    /// error.
+    fn connect(
+        &self,
+        k: u32,
+        address: SocketAddr,
+    ) -> Result<(Option<Side<S>>, Option<i32>), WorldFault>
+        ensures { IfOk result (λ made. IfSome made.0 (IsBegun (token_number (number_of_client self.now.reporting) k))) }
     {
-        let Ok(socket) = S::connect(self.net, address) else {
-            return Ok(None);
+        let socket = match S::connect(self.net, address) {
+            Ok(socket) => socket,
+            Err(error) => return Ok((None, error.raw_os_error())),
         };
         let token = self.reporting.token_of(k);
         let side = Side::new(self.alloc, self.reporting.registry(), socket, token, 0);
         match side {
-            Ok(side) => Ok(Some(side)),
+            Ok(side) => Ok((Some(side), None)),
             Err(error) if error.kind() == ErrorKind::OutOfMemory => Err(WorldFault {}),
-            Err(_) => Ok(None),
+            Err(error) => Ok((None, error.raw_os_error())),
         }
     }
 

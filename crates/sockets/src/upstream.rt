@@ -19,6 +19,7 @@ use gateway::Event;
 use mio::{Registry, event};
 use socket_io::{Got, PutFault};
 use std::alloc::Global;
+use std::cell::Cell;
 use std::io;
 use std::io::ErrorKind;
 use std::net::SocketAddr;
@@ -41,11 +42,19 @@ pub struct Upstream<S> {
     is_listed: bool,
     /// When it was first noted that it is idle, if nothing was put out for it since.
     idle_since: Option<Instant>,
+    /// The system's number of the error by which a call of its socket failed last, if it told one:
+    /// for the log alone, so it stands in a cell, of which contracts say nothing.
+    error: Cell<Option<i32>>,
 }
 
 impl<S: Wire> Upstream<S> {
-    /// A connection that is begun, or that couldn't be.
-    pub fn new(k: u32, address: Option<SocketAddr>, side: Option<Side<S>>) -> Upstream<S>
+    /// A connection that is begun, or that couldn't be, perhaps by an error of this number.
+    pub fn new(
+        k: u32,
+        address: Option<SocketAddr>,
+        side: Option<Side<S>>,
+        error: Option<i32>,
+    ) -> Upstream<S>
         ensures number { result.k ≡ k }
         ensures address { result.address ≡ address }
         ensures side { result.side ≡ side }
@@ -59,6 +68,24 @@ impl<S: Wire> Upstream<S> {
             is_queued: false,
             is_listed: false,
             idle_since: None,
+            error: Cell::new(error),
+        }
+    }
+
+    /// The system's number of the error by which a call of its socket failed last, if it told one.
+    pub(crate) fn error(&self) -> Option<i32> {
+        self.error.get()
+    }
+
+    /// Keeps the number of an error.
+    fn note_error(&self, error: &io::Error) {
+        self.error.set(error.raw_os_error());
+    }
+
+    /// Keeps the number of the error that a read gave, if it gave one.
+    fn note_error_of(&self, got: &io::Result<Got>) {
+        if let Err(error) = got {
+            self.note_error(error);
         }
     }
 
@@ -217,6 +244,7 @@ impl<S: Wire> Upstream<S> {
         match side.put(registry, octets) {
             Ok(()) => Ok(()),
             Err(PutFault::Socket(error)) => {
+                self.note_error(&error);
                 self.fail(error.kind());
                 Ok(())
             }
@@ -238,6 +266,7 @@ impl<S: Wire> Upstream<S> {
             return;
         };
         if let Err(error) = side.flush(registry) {
+            self.note_error(&error);
             self.fail(error.kind());
         }
     }
@@ -282,6 +311,7 @@ impl<S: Wire> Upstream<S> {
         };
         let is_lost = side.is_lost();
         let got = side.read(alloc, room);
+        self.note_error_of(&got);
         event_of(self.k, self.broken, is_lost, got)
     }
 

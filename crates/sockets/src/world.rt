@@ -1,6 +1,6 @@
 //! The world of sockets.
 
-ghost use Rattle.std.specs.Prelude.{◌≡◌, ◌+◌, ◌<◌, ◌^◌, None, Some, Ok, Err, [], ◌∷◌, ◌++◌, false, true, not, List, Result, ⊤, IfOk, OnOk, OnErr, ◌&&◌, ◌||◌, is_ok, if◌then◌else◌};
+ghost use Rattle.std.specs.Prelude.{◌≡◌, ◌+◌, ◌<◌, ◌^◌, None, Some, Ok, Err, [], ◌∷◌, ◌++◌, length, false, true, not, List, Result, ⊤, IfOk, OnOk, OnErr, ◌&&◌, ◌||◌, is_ok, if◌then◌else◌};
 ghost use Rattle.model.specs.Logs.{Step};
 ghost use Rattle.effects.specs.Views.{output_of};
 ghost use Rattle.driver.specs.Worlds.{AddsEvent, AddsHanded, KeepsRooms, SaysOver, with_outputs};
@@ -222,6 +222,21 @@ impl<'a, N: Net + Clock, S: Wire> SocketWorld<'a, N, S> {
     {
         self.is_quiet = false;
         self.sockets.give_up(k)
+    }
+
+    /// The system's number of the error by which the connection failed whose failure was told last,
+    /// if it told one.
+    pub fn failure(&self) -> Option<i32>
+        ensures { result ≡ self.now.sockets.failure }
+    {
+        self.sockets.failure
+    }
+
+    /// How many connections to upstreams are open.
+    pub fn open_connections(&self) -> usize
+        ensures { result ≡ length self.now.sockets.upstreams.items }
+    {
+        self.sockets.upstreams.len()
     }
 
     /// Ends what the client sends: what came of it before is still read, and then its end, as where

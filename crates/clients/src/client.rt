@@ -9,6 +9,7 @@ ghost use Rattle.sockets.specs.Moves.{seen_in};
 ghost use Rattle.theory_sockets.specs.Passed.{IsNew};
 ghost use Rattle.clients.specs.Serving.{IsServed, IsTold};
 
+use crate::journal::Lines;
 use crate::log::say_exchanges;
 use crate::pace::Pace;
 use crate::waits::{Limits, Waits};
@@ -22,6 +23,7 @@ use mio::event::Event as Report;
 use mio::net::TcpStream as Socket;
 use sockets::{Buffer, Departure, Portion, SocketWorld, Wire};
 use std::alloc::Global;
+use std::cell::RefCell;
 use std::io;
 use std::net::{Net, SocketAddr};
 use std::time::{Clock, Duration, Instant};
@@ -103,6 +105,8 @@ pub struct Common<'a> {
     pub setting: &'a Setting,
     /// By what sockets are watched.
     pub registry: &'a Registry,
+    /// What is said of them.
+    pub journal: &'a RefCell<Lines>,
 }
 
 /// Where exchanges are noted, if they are.
@@ -172,6 +176,14 @@ impl<'a> Client<'a> {
         ensures { result ≡ is_none self.now.serving }
     {
         self.serving.is_none()
+    }
+
+    /// How many connections to servers are open for it.
+    pub fn open_connections(&self) -> usize {
+        match &self.serving {
+            Some(serving) => serving.sockets.world.open_connections(),
+            None => 0,
+        }
     }
 
     /// Notes what was reported of one of its sockets. An error says that it is lost.

@@ -6,7 +6,8 @@ ghost use Rattle.h2gw_setup.specs.Stops.{status_of};
 
 use crate::client::{Client, Common, Outcome, Remaining};
 use crate::entrance::{Came, Entrance, Why};
-use crate::log::{say_ended, say_refused};
+use crate::journal::{Journal, StandardError};
+use crate::log::{Held, flush, is_waiting, say_ended, say_refused, say_unserved};
 use crate::waits::{Limits, has_limits};
 use driver::ServeFault;
 use h2gw_setup::setting::Setting;
@@ -15,6 +16,7 @@ use mio::Events;
 use mio::event::Event as Report;
 use mio::net::TcpListener;
 use sockets::{Buffer, Reactor, client_in};
+use std::cell::RefCell;
 use std::collections::VecDeque;
 use std::io::ErrorKind;
 use std::time::{Duration, Instant};
@@ -58,12 +60,17 @@ pub fn serve_crowd(
     }
     let mut reactor = Reactor::new(rt.alloc(), rt).map_err(|error| stop_of(&error))?;
     let registry = reactor.sources().map_err(|error| stop_of(&error))?;
+    let journal = RefCell::new(Journal::new(rt.alloc(), StandardError::new(rt)));
     let common = Common {
         rt,
         setting,
         registry: &registry,
+        journal: &journal,
     };
-    serve_by(&common, &mut reactor, TcpListener::from_std(listener))
+    let served = serve_by(&common, &mut reactor, TcpListener::from_std(listener));
+    // What waits even now is lost.
+    flush(&common);
+    served
 }
 
 /// Serves the connections of clients at a listener, by a reactor.
@@ -126,7 +133,9 @@ impl<'a> Crowd<'a> {
         self.tick(common)?;
         self.wait(common, reactor)?;
         let is_told = self.hear_all(common, reactor)?;
-        self.go_on(common, is_told)
+        self.go_on(common, is_told)?;
+        flush(common);
+        Ok(())
     }
 
     /// Waits until something is reported, or is to be done.
@@ -135,17 +144,17 @@ impl<'a> Crowd<'a> {
     {
         self.entrance.watch(common.registry, self.clients.len())?;
         reactor
-            .wait(self.patience(common.setting))
+            .wait(self.patience(common))
             .map_err(|error| stop_of(&error))
     }
 
     /// How long it may be waited for a report. A client that may wait already isn't reported once
     /// more.
-    fn patience(&self, setting: &Setting) -> Option<Duration> {
+    fn patience(&self, common: &Common<'a>) -> Option<Duration> {
         if !self.queue.is_empty() || self.entrance.may_let_in(self.clients.len()) {
             return Some(Duration::ZERO);
         }
-        if self.is_ticking(setting) {
+        if self.is_ticking(common) {
             Some(Duration::from_secs(TICK))
         } else {
             None
@@ -153,8 +162,9 @@ impl<'a> Crowd<'a> {
     }
 
     /// Whether something is to be done where only time passes.
-    fn is_ticking(&self, setting: &Setting) -> bool {
-        self.leaving > 0 || has_limits(setting) || self.entrance.is_paused()
+    fn is_ticking(&self, common: &Common<'a>) -> bool {
+        let is_left = self.leaving > 0 || self.entrance.is_paused();
+        is_left || has_limits(common.setting) || is_waiting(common)
     }
 
     /// Heeds what was reported, and looks again as long as so many sockets were that others may
@@ -244,7 +254,7 @@ impl<'a> Crowd<'a> {
     /// Says why a client can't be served. Where none is let in until time passes, that time begins
     /// now.
     fn refuse(&mut self, common: &Common<'a>, why: Why) {
-        say_refused(common.rt, why);
+        say_refused(common, why, held_by(&self.clients));
         if self.entrance.is_paused() {
             self.ticked = Instant::now(common.rt).ok();
         }
@@ -268,7 +278,7 @@ impl<'a> Crowd<'a> {
     fn tick(&mut self, common: &Common<'a>) -> Result<(), Stop>
         ensures { IfErr result (λ stop. 2 ≤ status_of stop) }
     {
-        if !self.is_ticking(common.setting) {
+        if !self.is_ticking(common) {
             return Ok(());
         }
         let Ok(now) = Instant::now(common.rt) else {
@@ -337,6 +347,18 @@ impl<'a> Crowd<'a> {
     }
 }
 
+/// For how many connections files are open.
+fn held_by(clients: &[Client<'_>]) -> Held {
+    let mut servers: usize = 0;
+    for client in clients {
+        servers = servers.saturating_add(client.open_connections());
+    }
+    Held {
+        clients: clients.len(),
+        servers,
+    }
+}
+
 /// Whether it is time to look after clients again.
 fn is_due(now: Instant, ticked: Option<Instant>) -> bool {
     match ticked {
@@ -354,10 +376,10 @@ fn note_end(common: &Common<'_>, client: &Client<'_>, outcome: &Outcome) -> Resu
         if common.setting.clients == 1 {
             return Err(Stop::Memory);
         }
-        say_refused(common.rt, Why::Memory);
+        say_unserved(common);
     }
     if common.setting.is_logged {
-        say_ended(common.rt, client, outcome);
+        say_ended(common, client, outcome);
     }
     Ok(())
 }

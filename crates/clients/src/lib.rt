@@ -5,6 +5,7 @@
 mod client;
 mod crowd;
 mod entrance;
+mod journal;
 mod listening;
 mod log;
 mod pace;
@@ -13,6 +14,7 @@ mod watched;
 
 pub use client::Common;
 pub use crowd::{Crowd, serve_crowd};
+pub use journal::{Journal, Lines, Sink, StandardError};
 pub use listening::{serve_at, serve_clients};
 pub use pace::Pace;
 pub use waits::{Limits, Wait};

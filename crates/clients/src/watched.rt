@@ -30,13 +30,32 @@ pub struct Watched<'a, C: Clock, W: Drop> {
     waits: Option<Waits>,
 }
 
-/// Notes what happens, and whether it is of a connection that was waited for too long.
-fn note_event(exchanges: &mut Exchanges, event: &Event, is_late: bool) -> Result<(), AllocError> {
+/// A world that says by which error a connection failed.
+pub trait Failing {
+    /// The system's number of the error by which the connection failed whose failure was told last,
+    /// if it told one.
+    fn failure(&self) -> Option<i32>;
+}
+
+impl<'a, N: Net + Clock, S: Wire> Failing for SocketWorld<'a, N, S> {
+    fn failure(&self) -> Option<i32> {
+        SocketWorld::failure(self)
+    }
+}
+
+/// Notes what happens: whether it is of a connection that was waited for too long, and by which
+/// error one failed.
+fn note_event(
+    exchanges: &mut Exchanges,
+    event: &Event,
+    is_late: bool,
+    error: Option<i32>,
+) -> Result<(), AllocError> {
     match event {
         Event::Up(k, octets) => exchanges.hear(*k, octets),
         Event::UpEnd(k) => exchanges.end(*k),
         Event::UpFailed(k) if is_late => exchanges.time_out(*k),
-        Event::UpFailed(k) => exchanges.fail(*k),
+        Event::UpFailed(k) => exchanges.fail(*k, error),
         Event::UpTook(k, _) => {
             exchanges.take(*k);
             Ok(())
@@ -84,7 +103,7 @@ fn note_open(waits: &mut Waits, output: &Output) -> Result<(), AllocError> {
     }
 }
 
-impl<'a, C: Clock, W: World + Drop> Watched<'a, C, W> {
+impl<'a, C: Clock, W: World + Failing + Drop> Watched<'a, C, W> {
     /// A world whose exchanges are noted in these from now on, where there are some, and since when
     /// it is waited for upstreams in those.
     pub fn new(
@@ -136,10 +155,11 @@ impl<'a, C: Clock, W: World + Drop> Watched<'a, C, W> {
         ensures { self.new.world ≡ self.old.world }
     {
         let is_late = self.note_move(event);
+        let error = self.world.failure();
         let Some(exchanges) = &mut self.exchanges else {
             return;
         };
-        if note_event(exchanges, event, is_late).is_err() {
+        if note_event(exchanges, event, is_late, error).is_err() {
             self.exchanges = None;
         }
     }
@@ -209,7 +229,7 @@ impl<'a, C: Clock, N: Net + Clock, S: Wire> Watched<'a, C, SocketWorld<'a, N, S>
     }
 }
 
-impl<'a, C: Clock, W: World + Drop> World for Watched<'a, C, W> {
+impl<'a, C: Clock, W: World + Failing + Drop> World for Watched<'a, C, W> {
     ghost calls = { λ watched. W.calls watched.world };
 
     ghost failures = { λ watched. W.failures watched.world };

@@ -4,13 +4,14 @@ ghost use Rattle.std.specs.Prelude.{◌≡◌, IfOk};
 ghost use Rattle.gateway.specs.Setups.{setup_of, IsServable};
 
 use crate::served_tests::{REQUEST, setting_by};
-use clients::{Common, Crowd, Limits, Wait};
+use clients::{Common, Crowd, Journal, Limits, StandardError, Wait};
 use gateway::Passing;
 use h2gw_setup::setting::Setting;
 use h2gw_setup::stops::Stop;
 use mio::net::TcpStream as Waiting;
 use sockets::Reactor;
 use std::alloc::{AllocError, Global};
+use std::cell::RefCell;
 use std::io;
 use std::io::{Read, Write};
 use std::net::{Ipv4Addr, Shutdown, SocketAddr, TcpListener, TcpStream};
@@ -190,10 +191,12 @@ fn is_sent(
     let mut asker = asker_at(host, listener.local_addr()?, wanted)?;
     let mut reactor = Reactor::new(host.alloc(), host)?;
     let sources = reactor.sources()?;
+    let journal = RefCell::new(Journal::new(host.alloc(), StandardError::new(host)));
     let common = Common {
         rt: host,
         setting,
         registry: &sources,
+        journal: &journal,
     };
     let listener = mio::net::TcpListener::from_std(listener);
     let served = take_rounds(&common, &mut reactor, listener, &mut asker, server);

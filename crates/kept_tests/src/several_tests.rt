@@ -6,12 +6,13 @@ ghost use Rattle.gateway.specs.Setups.{setup_of, IsServable};
 
 use crate::meeting::{config_of, route_of};
 use crate::peers::{ALL, Behind, Case, Peers, connect, quiet_listener};
-use clients::{Common, Crowd};
+use clients::{Common, Crowd, Journal, StandardError};
 use gateway::Passing;
 use h2gw_setup::setting::Setting;
 use h2gw_setup::stops::Stop;
 use sockets::Reactor;
 use std::alloc::{AllocError, Global};
+use std::cell::RefCell;
 use std::io;
 use std::net::{Ipv4Addr, SocketAddr, TcpListener};
 use std::process::Abort;
@@ -64,10 +65,12 @@ fn serve_all(
 {
     let mut reactor = Reactor::new(rt.alloc(), rt)?;
     let sources = reactor.sources()?;
+    let journal = RefCell::new(Journal::new(rt.alloc(), StandardError::new(rt)));
     let common = Common {
         rt,
         setting,
         registry: &sources,
+        journal: &journal,
     };
     let listener = mio::net::TcpListener::from_std(listener);
     Ok(take_rounds(&common, &mut reactor, listener, all).unwrap_or(false))

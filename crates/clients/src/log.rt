@@ -69,7 +69,10 @@ fn words_of_refusal(why: Why) -> &'static str {
 
 /// Says that memory was refused for a client that was served.
 pub fn say_unserved(common: &Common<'_>) {
-    say(common, format!(in common.rt.alloc(); "clients: no memory\n"));
+    say(
+        common,
+        format!(in common.rt.alloc(); "clients: no memory\n"),
+    );
 }
 
 /// Says, with the time, how long ago a client was accepted, how serving it ended, and how many

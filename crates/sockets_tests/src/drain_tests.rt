@@ -128,7 +128,10 @@ fn drained_amid_a_request(
 fn what_was_opened_is_answered_behind_a_drain(rt: HostRuntime) -> Result<(), Fail> {
     let config = one_route(rt.alloc())?;
     let (ended, read) = drained_amid_a_request(&rt, &config)?;
-    assert_eq!(rt; (ended, read.as_slice()), (Some(ServiceEnd::Closed), DRAINED));
+    assert_eq!(rt;
+        (ended, read.as_slice()),
+        (Some(ServiceEnd::Closed), DRAINED)
+    );
     Ok(())
 }
 

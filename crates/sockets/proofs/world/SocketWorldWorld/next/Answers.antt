@@ -50,10 +50,13 @@ returns-then-self-clause-moves g c = record {
 
 pub returns-then-self-clause-moved_by : goal.returns-then-self-clause-moved_by
 returns-then-self-clause-moved_by g c = record {
-  moved = (record {
-    client_is = goes_still _ _ c.args.self.now.sockets.client;
-    others = all_still _ _ c.args.self.now.sockets.upstreams.items;
-  }, tt);
+  moved = (
+    record {
+      client_is = goes_still _ _ c.args.self.now.sockets.client;
+      others = all_still _ _ c.args.self.now.sockets.upstreams.items;
+    },
+    tt,
+  );
   rising = λ up. up;
   addresses = refl;
   number = refl;

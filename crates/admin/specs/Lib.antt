@@ -1,0 +1,4 @@
+pub mod Requests
+pub mod Expositions
+pub mod Answers
+pub mod Visits

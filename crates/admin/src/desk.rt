@@ -209,9 +209,8 @@ fn expire_one<S: Socket + Drop>(visit: &mut Option<Visit<S>>, now: Instant)
 fn expire_all<S: Socket + Drop>(visits: &mut [Option<Visit<S>>], now: Instant)
     ensures { All (λ visit. IfSome visit (λ visit. instant_nanos now - instant_nanos visit.begun < 5 * 1_000_000_000)) visits.new }
 {
-    if let [visit, visits @ ..] = visits {
-        expire_one(visit, now);
-        expire_all(visits, now);
+    for place in 0..visits.len() {
+        expire_one(&mut visits[place], now);
     }
 }
 

@@ -222,7 +222,12 @@ fn answer(
     buffer: &mut [u8],
 ) -> Option<Visit<TcpStream>> {
     visit
-        .answer(standing.alloc, asked, standing.is_draining, standing.metrics)
+        .answer(
+            standing.alloc,
+            asked,
+            standing.is_draining,
+            standing.metrics,
+        )
         .ok()?;
     leave(visit, standing, buffer)
 }

@@ -145,13 +145,6 @@ impl Count {
         self.value = self.value.saturating_add(more);
     }
 
-    /// How much it is.
-    pub fn value(self) -> u64
-        ensures { result ≡ self.value }
-    {
-        self.value
-    }
-
     /// A sample of it.
     fn sample(self, label: &'static str) -> Sample
         ensures { sample_of result ≡ labelled label.entry.now self }
@@ -216,9 +209,24 @@ impl Metrics {
         let resets = self.resets.value;
         let ended = &self.goaways.samples();
         write_gauge(out, "h2gw_clients", "Clients that are there.", self.clients)?;
-        write_counter(out, "h2gw_clients_total", "Clients that came.", self.came.value)?;
-        write_counter(out, "h2gw_streams_total", "Streams that clients opened.", streams)?;
-        write_counter(out, "h2gw_resets_total", "Streams that the gateway reset.", resets)?;
+        write_counter(
+            out,
+            "h2gw_clients_total",
+            "Clients that came.",
+            self.came.value,
+        )?;
+        write_counter(
+            out,
+            "h2gw_streams_total",
+            "Streams that clients opened.",
+            streams,
+        )?;
+        write_counter(
+            out,
+            "h2gw_resets_total",
+            "Streams that the gateway reset.",
+            resets,
+        )?;
         write_counters(out, "h2gw_goaways_total", GOAWAYS, ended)
     }
 
@@ -229,8 +237,18 @@ impl Metrics {
         let open = self.connections;
         let over = &self.exchanges.samples();
         let replies = &self.replies.samples();
-        write_gauge(out, "h2gw_connections", "Connections to servers that are open.", open)?;
-        write_gauge(out, "h2gw_idle_connections", "Those that are idle.", self.idle)?;
+        write_gauge(
+            out,
+            "h2gw_connections",
+            "Connections to servers that are open.",
+            open,
+        )?;
+        write_gauge(
+            out,
+            "h2gw_idle_connections",
+            "Those that are idle.",
+            self.idle,
+        )?;
         write_counters(out, "h2gw_exchanges_total", EXCHANGES, over)?;
         write_counters(out, "h2gw_replies_total", REPLIES, replies)
     }
@@ -368,12 +386,7 @@ fn write_samples(out: &mut String, name: &str, samples: &[Sample]) -> Result<(),
 
 /// Adds the lines before its samples.
 #[tactic(auto, unfolding(crate::specs::Expositions::heading_of))]
-fn write_heading(
-    out: &mut String,
-    name: &str,
-    help: &str,
-    kind: &str,
-) -> Result<(), AllocError>
+fn write_heading(out: &mut String, name: &str, help: &str, kind: &str) -> Result<(), AllocError>
     ensures { OnOk result (string_bytes out.new ≡ string_bytes out.old ++ heading_of name.now help.now kind.now) }
 {
     write!(out, "# HELP {name} {help}\n# TYPE {name} {kind}\n")

@@ -157,7 +157,10 @@ fn have_no_wrong_host(fields: &[Header<'_>]) -> bool
 fn count_hosts(fields: &[Header<'_>]) -> usize
     ensures { result ≡ hosts (map header_parts fields.now) }
 {
-    fields.iter().filter(|field| is_named(field, "host")).count()
+    fields
+        .iter()
+        .filter(|field| is_named(field, "host"))
+        .count()
 }
 
 /// Whether fields say whom their head is sent to, in HTTP/1.0 or HTTP/1.1 (RFC 9112, section 3.2).

@@ -142,9 +142,6 @@ impl<S: Socket> Visit<S> {
         ensures ended { IfOk result (λ goes_on. goes_on ≡ false → 0 < length buffer.old → IsAtEnd (S.left self.old.socket)) }
         ensures stays { self.new ≡ record self.old { socket = self.new.socket } }
     {
-        Ok(!matches!(
-            read_piece(alloc, &mut self.socket, buffer)?,
-            Got::End
-        ))
+        Ok(!matches!(read_piece(alloc, &mut self.socket, buffer)?, Got::End))
     }
 }

@@ -2,3 +2,4 @@ pub mod Requests
 pub mod Expositions
 pub mod Answers
 pub mod Visits
+pub mod Loopback

@@ -1,8 +1,9 @@
 //! The listener, and its connections.
 
-ghost use Rattle.std.specs.Prelude.{◌≡◌, ◌≤◌, ◌<◌, ◌↔◌, ◌⊎◌, ◌+◌, ◌-◌, ◌*◌, All, IsTrue, IfSome, IfNone, is_some};
+ghost use Rattle.std.specs.Prelude.{◌≡◌, ◌≤◌, ◌<◌, ◌↔◌, ◌⊎◌, ◌+◌, ◌-◌, ◌*◌, All, IsTrue, IfSome, IfNone, is_some, false, slice_get, ⊥, ℕ};
 ghost use Rattle.std.specs.List.{list_any};
 ghost use Rattle.std.specs.Time.{instant_nanos};
+ghost use Rattle.mio.specs.Event.{event_token};
 
 use crate::metrics::Metrics;
 use crate::request::{Asked, LONGEST_HEAD, Request, Resource};
@@ -84,8 +85,12 @@ impl Desk {
         (LISTENER..FIRST + PLACES).contains(&token.0)
     }
 
-    /// Heeds what was reported. The answer is whether the end of the program was asked for.
-    pub fn hear(&mut self, report: &Report, standing: &Standing<'_>) -> bool {
+    /// Heeds what was reported. The answer is whether the end of the program was asked for. A report
+    /// of one connection changes no other. What a socket gives isn't told.
+    pub fn hear(&mut self, report: &Report, standing: &Standing<'_>) -> bool
+        ensures entrance { (event_token report.now).0 < 2 → (result ≡ false) × (self.new ≡ record self.old { may_wait = true }) }
+        ensures one { (k : ℕ) → ((event_token report.now).0 ≡ k + 2 → ⊥) → slice_get self.new.visits k ≡ slice_get self.old.visits k }
+    {
         match place_of(report.token()) {
             Some(place) => self.go_on(place, standing),
             None => {
@@ -118,7 +123,9 @@ impl Desk {
 
     /// Lets in those who wait, sixteen at most. Where there is no place for one, its connection is
     /// closed at once.
-    pub fn let_in(&mut self, standing: &Standing<'_>) {
+    pub fn let_in(&mut self, standing: &Standing<'_>)
+        ensures idle { self.old.may_wait ≡ false → self.new ≡ self.old }
+    {
         for _ in 0..MOST_ACCEPTED {
             if !self.may_wait {
                 break;
@@ -149,6 +156,7 @@ impl Desk {
     /// program.
     fn go_on(&mut self, place: usize, standing: &Standing<'_>) -> bool
         requires { place < 4 }
+        ensures { (k : ℕ) → (k ≡ place → ⊥) → slice_get self.new.visits k ≡ slice_get self.old.visits k }
     {
         let Some(mut visit) = self.visits[place].take() else {
             return false;

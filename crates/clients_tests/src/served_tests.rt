@@ -49,6 +49,8 @@ fn setting_of(alloc: Global, connections: u32, turns: u32) -> Setting
         keep_idle: 0,
         connect: 0,
         answer: 0,
+        admin: None,
+        grace: 30,
         is_logged: false,
     }
 }

@@ -49,6 +49,8 @@ gateway_means f a ws v p has = (
     keep_idle = subst (λ o. IsCountWithin gateways.seconds_range o v.keep_idle) (found_at f a gateway_app ws (name_of value.KeepIdle) p) has.keep_idle;
     connect = subst (λ o. IsCountWithin gateways.seconds_range o v.connect) (found_at f a gateway_app ws (name_of value.Connect) p) has.connect;
     answer = subst (λ o. IsCountWithin gateways.seconds_range o v.answer) (found_at f a gateway_app ws (name_of value.Answer) p) has.answer;
+    admin = has.admin ∙ found_at f a gateway_app ws (name_of value.Admin) p;
+    grace = subst (λ o. IsCountWithin gateways.grace_range o v.grace) (found_at f a gateway_app ws (name_of value.Grace) p) has.grace;
     is_logged = subst (λ o. IsTrue v.is_logged ↔ (o ≡ Some (codes "true"))) (found_at f a gateway_app ws (name_of value.Log) p) has.is_logged;
     is_checked = subst (λ o. IsTrue v.is_checked ↔ (o ≡ Some (codes "true"))) (found_at f a gateway_app ws (name_of value.Check) p) has.is_checked;
   },

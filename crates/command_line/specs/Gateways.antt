@@ -21,14 +21,18 @@ needed_app = with_rule (with_rule (program_app (codes "h2gw")) (option_rule valu
 abbrev pub served_app : App
 served_app = with_rule (with_rule (with_rule needed_app (option_rule value.Connections)) (option_rule value.Turns)) (option_rule value.Clients)
 
--- the command without its flags
+-- the command with those too of how long anything may take
 abbrev pub timed_app : App
 timed_app = with_rule (with_rule (with_rule (with_rule served_app (option_rule value.Idle)) (option_rule value.KeepIdle)) (option_rule value.Connect))
     (option_rule value.Answer)
 
+-- the command without its flags
+abbrev pub ended_app : App
+ended_app = with_rule (with_rule timed_app (option_rule value.Admin)) (option_rule value.Grace)
+
 -- the command
 abbrev pub gateway_app : App
-gateway_app = with_rule (with_rule timed_app (flag_rule value.Log)) (flag_rule value.Check)
+gateway_app = with_rule (with_rule ended_app (flag_rule value.Log)) (flag_rule value.Check)
 
 -- how many connections are served, and turns are taken: the greatest such number where that isn't said
 abbrev pub count_range : Range
@@ -41,6 +45,10 @@ clients_range = record { least = 1; most = 1024; absent = 1 }
 -- for how many seconds something may last: 0, which is for ever, where that isn't said
 abbrev pub seconds_range : Range
 seconds_range = record { least = 0; most = 4294967295; absent = 0 }
+
+-- for how many seconds clients may stay once the program comes to its end: 30, where that isn't said
+abbrev pub grace_range : Range
+grace_range = record { least = 0; most = 4294967295; absent = 30 }
 
 -- The flag stands there.
 abbrev pub IsSet : (Word → Option Text) → Word → Type 0
@@ -66,6 +74,8 @@ pub record AreValues (find : Word → Option Text) (values : GatewayWords) : Typ
   pub keep_idle : IsCountWithin seconds_range (find value.KeepIdle) values.keep_idle
   pub connect : IsCountWithin seconds_range (find value.Connect) values.connect
   pub answer : IsCountWithin seconds_range (find value.Answer) values.answer
+  pub admin : option_map string_bytes values.admin ≡ find value.Admin
+  pub grace : IsCountWithin grace_range (find value.Grace) values.grace
   pub is_logged : IsTrue values.is_logged ↔ IsSet find value.Log
   pub is_checked : IsTrue values.is_checked ↔ IsSet find value.Check
 
@@ -82,13 +92,14 @@ LacksNeeded find fault = ⊥
 
 -- The values that have to be numbers, in the order in which they are judged.
 abbrev pub numbers : List Word
-numbers = value.Connections ∷ value.Turns ∷ value.Clients ∷ value.Idle ∷ value.KeepIdle ∷ value.Connect ∷ value.Answer ∷ []
+numbers = value.Connections ∷ value.Turns ∷ value.Clients ∷ value.Idle ∷ value.KeepIdle ∷ value.Connect ∷ value.Answer ∷ value.Grace ∷ []
 
 -- which numbers such a value may be
 abbrev pub range_of : Word → Range
 range_of value.Connections = count_range
 range_of value.Turns = count_range
 range_of value.Clients = clients_range
+range_of value.Grace = grace_range
 range_of word = seconds_range
 
 -- The value is a number of its range, or left out.
@@ -112,6 +123,7 @@ IsFirstNoNumber find value.Idle = IsNoNumber 3 find value.Idle
 IsFirstNoNumber find value.KeepIdle = IsNoNumber 4 find value.KeepIdle
 IsFirstNoNumber find value.Connect = IsNoNumber 5 find value.Connect
 IsFirstNoNumber find value.Answer = IsNoNumber 6 find value.Answer
+IsFirstNoNumber find value.Grace = IsNoNumber 7 find value.Grace
 IsFirstNoNumber find word = ⊥
 
 -- Why they are none, unless memory ran out: all that is missing, or the first that is no number.

@@ -5,7 +5,7 @@ use Rattle.clap.specs.Words.{App, Rule, Text, new_app, new_rule}
 use Rattle.clap.specs.declared.builder.action.ArgAction.TheVariants.{Set, SetTrue}
 use Rattle.command_line.specs.declared.values.Range.{Range}
 use Rattle.command_line.specs.declared.words.Word.{Word}
-use Rattle.command_line.specs.declared.words.Word.TheVariants.{Config, Listen, Connections, Turns, Script, Clients, Idle, KeepIdle, Connect, Answer, Log, Check}
+use Rattle.command_line.specs.declared.words.Word.TheVariants.{Config, Listen, Connections, Turns, Script, Clients, Idle, KeepIdle, Connect, Answer, Admin, Grace, Log, Check}
 use Rattle.command_line.specs.declared.words.WordsFault.{WordsFault}
 use Rattle.command_line.specs.declared.words.WordsFault.TheVariants.{Missing, NotANumber}
 
@@ -21,6 +21,8 @@ name_of Idle = codes "idle"
 name_of KeepIdle = codes "keep-idle"
 name_of Connect = codes "connect"
 name_of Answer = codes "answer"
+name_of Admin = codes "admin"
+name_of Grace = codes "grace"
 name_of Log = codes "log"
 name_of Check = codes "check"
 

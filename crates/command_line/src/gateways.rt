@@ -2,7 +2,7 @@
 
 ghost use Rattle.std.specs.Prelude.{◌≡◌, map, option_copied, IfOk, IfErr, Some};
 ghost use Rattle.clap.specs.Words.{app_of, found_of};
-ghost use Rattle.command_line.specs.Gateways.{needed_app, served_app, timed_app, gateway_app, found_by, HasNeeded, LacksNeeded};
+ghost use Rattle.command_line.specs.Gateways.{needed_app, served_app, timed_app, ended_app, gateway_app, found_by, HasNeeded, LacksNeeded};
 ghost use Rattle.command_line.specs.Gateways.{HasValues, LacksValues, Means, Refuses};
 
 use crate::values::{Range, command, count_within, fault_of, flag, has_flag, option, owned};
@@ -39,6 +39,12 @@ const CONNECT: &str =
 const ANSWER: &str =
     "For how many seconds a connection to a server may then neither take nor give anything; 0 is for ever [default: 0]";
 
+const ADMIN: &str =
+    "Where it says how it is (/healthz, /metrics) and is told to end (/drain): a loopback address and port";
+
+const GRACE: &str =
+    "For how many seconds clients may stay once it is told to end; 0 is for ever [default: 30]";
+
 const LOG: &str =
     "Writes a line on standard error for each exchange with a server and for each connection";
 
@@ -66,6 +72,13 @@ const SECONDS_RANGE: Range = Range {
     absent: 0,
 };
 
+/// For how many seconds clients may stay once the program comes to its end.
+const GRACE_RANGE: Range = Range {
+    least: 0,
+    most: u32::MAX,
+    absent: 30,
+};
+
 /// The values of the gateway's command line.
 #[derive(Debug, Drop)]
 pub struct GatewayWords {
@@ -88,6 +101,10 @@ pub struct GatewayWords {
     /// For how many seconds a connection to a server may then neither take nor give anything; 0 is
     /// for ever.
     pub answer: u32,
+    /// Where the program says how it is, and is told to come to its end, if anywhere.
+    pub admin: Option<String>,
+    /// For how many seconds clients may stay that are there then; 0 is for ever.
+    pub grace: u32,
     /// Exchanges with servers and connections are told of on standard error.
     pub is_logged: bool,
     /// The configuration is only checked.
@@ -96,9 +113,9 @@ pub struct GatewayWords {
 
 /// Reads the gateway's command line, from the program's name on: `--config FILE --listen ADDR`, and
 /// `--connections N`, `--turns N`, `--clients N`, 1 to 1,024, `--idle SECONDS`,
-/// `--keep-idle SECONDS`, `--connect SECONDS`, `--answer SECONDS`, `--log` and `--check`. They come
-/// in any order, each once, and all but the first two may be left out. With `--check` so may
-/// `--listen`.
+/// `--keep-idle SECONDS`, `--connect SECONDS`, `--answer SECONDS`, `--admin ADDR`,
+/// `--grace SECONDS`, `--log` and `--check`. They come in any order, each once, and all but the
+/// first two may be left out. With `--check` so may `--listen`.
 ///
 /// `--help`, `--version` and what isn't such a line is a fault. So is what is missing, all of it at
 /// once, and then the first value, in the order above, that is no such number.
@@ -122,12 +139,21 @@ pub fn read_gateway_words<'a>(
 fn gateway_command<'a>(alloc: Global) -> Result<Command<'a>, AllocError>
     ensures { IfOk result (λ command. app_of command ≡ gateway_app) }
 {
-    timed_command(alloc)?
+    ended_command(alloc)?
         .arg(flag(alloc, Word::Log, LOG))?
         .arg(flag(alloc, Word::Check, CHECK))
 }
 
 /// The command without its flags.
+fn ended_command<'a>(alloc: Global) -> Result<Command<'a>, AllocError>
+    ensures { IfOk result (λ command. app_of command ≡ ended_app) }
+{
+    timed_command(alloc)?
+        .arg(option(alloc, Word::Admin, "ADDR", ADMIN))?
+        .arg(option(alloc, Word::Grace, "SECONDS", GRACE))
+}
+
+/// The command with the words of what is served, and of how long anything may take.
 fn timed_command<'a>(alloc: Global) -> Result<Command<'a>, AllocError>
     ensures { IfOk result (λ command. app_of command ≡ timed_app) }
 {
@@ -170,6 +196,7 @@ fn gateway_values(alloc: Global, matches: &ArgMatches<'_>) -> Result<GatewayWord
     let keep_idle = count_within(matches, Word::KeepIdle, &SECONDS_RANGE)?;
     let connect = count_within(matches, Word::Connect, &SECONDS_RANGE)?;
     let answer = count_within(matches, Word::Answer, &SECONDS_RANGE)?;
+    let grace = count_within(matches, Word::Grace, &GRACE_RANGE)?;
     Ok(GatewayWords {
         config: String::from_str(alloc, config)?,
         listen: owned(alloc, listen)?,
@@ -180,6 +207,8 @@ fn gateway_values(alloc: Global, matches: &ArgMatches<'_>) -> Result<GatewayWord
         keep_idle,
         connect,
         answer,
+        admin: owned(alloc, matches.get_str("admin"))?,
+        grace,
         is_logged: has_flag(matches, Word::Log),
         is_checked: has_flag(matches, Word::Check),
     })

@@ -40,6 +40,8 @@ impl Word {
             Word::KeepIdle => "keep-idle",
             Word::Connect => "connect",
             Word::Answer => "answer",
+            Word::Admin => "admin",
+            Word::Grace => "grace",
             Word::Log => "log",
             Word::Check => "check",
         }

@@ -25,6 +25,10 @@ pub enum Word {
     Connect,
     /// `--answer SECONDS`: for how many seconds it may then neither take nor give anything.
     Answer,
+    /// `--admin ADDR`: where the program says how it is, and is told to come to its end.
+    Admin,
+    /// `--grace SECONDS`: for how many seconds clients may stay that are there then.
+    Grace,
     /// `--log`: whether exchanges with servers and connections are told of.
     Log,
     /// `--check`: whether the configuration is only checked.

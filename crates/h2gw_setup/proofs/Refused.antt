@@ -18,7 +18,7 @@ use Rattle.h2gw_setup.specs.Addresses.{IsAddress, IsNoAddress}
 use Rattle.h2gw_setup.specs.Stops.{status_of, status_of_kind, stop_of}
 use Rattle.h2gw_setup.specs.Refusals.{HasBadUpstream, LacksAddresses, LacksConfig, LacksWords, IsWordsStop}
 use Rattle.h2gw_setup.specs.declared.stops.Stop.{Stop}
-use Rattle.h2gw_setup.specs.declared.stops.Stop.TheVariants.{Words, Missing, MissingBoth, NotANumber, NotUtf8, BadAddress, NoConfig, Config as BadConfig, Bind, Accept, Print, Memory}
+use Rattle.h2gw_setup.specs.declared.stops.Stop.TheVariants.{Words, Missing, MissingBoth, NotANumber, NotUtf8, BadAddress, BadAdmin, NoConfig, Config as BadConfig, Bind, BindAdmin, Accept, Print, Memory}
 
 -- The upstream of the route at a place is no address.
 pub bad_upstream : (routes : List Route) (i : ℕ) (route : Route) → i < length routes → route ≡ get_or routes i route → IsNoAddress (string_bytes route.upstream) → HasBadUpstream routes
@@ -46,9 +46,11 @@ config_stop text config MissingBoth is lacks = absurd lacks
 config_stop text config (NotANumber word) is lacks = absurd lacks
 config_stop text config NotUtf8 is lacks = absurd lacks
 config_stop text config BadAddress is lacks = absurd lacks
+config_stop text config BadAdmin is lacks = absurd lacks
 config_stop text config (NoConfig reason) is lacks = absurd lacks
 config_stop text config (BadConfig fault) is lacks = absurd (configured _ config is lacks.1)
 config_stop text config (Bind reason) is lacks = absurd lacks
+config_stop text config (BindAdmin reason) is lacks = absurd lacks
 config_stop text config Accept is lacks = absurd lacks
 config_stop text config Print is lacks = absurd lacks
 config_stop text config Memory is lacks = tt
@@ -66,6 +68,8 @@ refused arguments (words.Missing value.Idle) refuses = absurd refuses.1
 refused arguments (words.Missing value.KeepIdle) refuses = absurd refuses.1
 refused arguments (words.Missing value.Connect) refuses = absurd refuses.1
 refused arguments (words.Missing value.Answer) refuses = absurd refuses.1
+refused arguments (words.Missing value.Admin) refuses = absurd refuses.1
+refused arguments (words.Missing value.Grace) refuses = absurd refuses.1
 refused arguments (words.Missing value.Log) refuses = absurd refuses.1
 refused arguments (words.Missing value.Check) refuses = absurd refuses.1
 refused arguments words.MissingBoth refuses = tt
@@ -79,6 +83,8 @@ refused arguments (words.NotANumber value.Idle) refuses = tt
 refused arguments (words.NotANumber value.KeepIdle) refuses = tt
 refused arguments (words.NotANumber value.Connect) refuses = tt
 refused arguments (words.NotANumber value.Answer) refuses = tt
+refused arguments (words.NotANumber value.Admin) refuses = absurd refuses.1
+refused arguments (words.NotANumber value.Grace) refuses = tt
 refused arguments (words.NotANumber value.Log) refuses = absurd refuses.1
 refused arguments (words.NotANumber value.Check) refuses = absurd refuses.1
 refused arguments words.NotUtf8 refuses = absurd refuses
@@ -101,9 +107,11 @@ status_of_words MissingBoth is = λ (same : 1 ≡ 2). omega (arith, same)
 status_of_words (NotANumber word) is = λ (same : 1 ≡ 2). omega (arith, same)
 status_of_words NotUtf8 is = λ (same : 1 ≡ 2). omega (arith, same)
 status_of_words BadAddress is = absurd is
+status_of_words BadAdmin is = absurd is
 status_of_words (NoConfig reason) is = absurd is
 status_of_words (BadConfig fault) is = absurd is
 status_of_words (Bind reason) is = absurd is
+status_of_words (BindAdmin reason) is = absurd is
 status_of_words Accept is = absurd is
 status_of_words Print is = absurd is
 status_of_words Memory is = λ (same : 3 ≡ 2). omega (arith, same)

@@ -10,7 +10,7 @@ use Rattle.command_line.specs.Values.{name_of}
 use Rattle.configuration.specs.declared.faults.ConfigFault.TheVariants as fault
 use Rattle.configuration.specs.Lines as config
 use Rattle.h2gw_setup.specs.declared.stops.Stop.{Stop}
-use Rattle.h2gw_setup.specs.declared.stops.Stop.TheVariants.{Words, Missing, MissingBoth, NotANumber, NotUtf8, BadAddress, NoConfig, Config, Bind, Accept, Print, Memory}
+use Rattle.h2gw_setup.specs.declared.stops.Stop.TheVariants.{Words, Missing, MissingBoth, NotANumber, NotUtf8, BadAddress, BadAdmin, NoConfig, Config, Bind, BindAdmin, Accept, Print, Memory}
 
 -- a command line that only asks for help, or for the version, is answered
 abbrev pub status_of_kind : ErrorKind → ℕ
@@ -25,12 +25,14 @@ status_of MissingBoth = 1
 status_of (NotANumber word) = 1
 status_of NotUtf8 = 1
 status_of BadAddress = 1
+status_of BadAdmin = 1
 status_of (NoConfig reason) = 1
 status_of (Config fault.NotToml) = 1
 status_of (Config (fault.Bad key)) = 1
 status_of (Config fault.UnknownKey) = 1
 status_of (Config fault.Memory) = 3
 status_of (Bind reason) = 2
+status_of (BindAdmin reason) = 2
 status_of Accept = 2
 status_of Print = 2
 status_of Memory = 3
@@ -52,9 +54,11 @@ line_of MissingBoth = Some (codes "config: missing\nlisten: missing")
 line_of (NotANumber word) = Some (name_of word ++ codes ": not a number")
 line_of NotUtf8 = Some (codes "arguments: not UTF-8")
 line_of BadAddress = Some (codes "listen: bad address")
+line_of BadAdmin = Some (codes "admin: bad address")
 line_of (NoConfig reason) = Some (codes "config: cannot read")
 line_of (Config fault) = Some (config.line_of fault)
 line_of (Bind reason) = Some (codes "listen: cannot bind")
+line_of (BindAdmin reason) = Some (codes "admin: cannot bind")
 line_of Accept = Some (codes "listen: cannot accept")
 line_of Print = None
 line_of Memory = Some (codes "no memory")
@@ -63,4 +67,5 @@ line_of Memory = Some (codes "no memory")
 abbrev pub reason_of : Stop → Option Error
 reason_of (NoConfig reason) = Some reason
 reason_of (Bind reason) = Some reason
+reason_of (BindAdmin reason) = Some reason
 reason_of stop = None

@@ -1,17 +1,18 @@
 //! What a configuration sets, or what is wrong with it.
 
-ghost use Rattle.std.specs.Prelude.{◌≤◌, None, IfOk, IfErr, OnOk, option_map, string_bytes};
+ghost use Rattle.std.specs.Prelude.{◌≡◌, ◌≤◌, None, IfOk, IfErr, OnOk, option_map, string_bytes};
 ghost use Rattle.gateway.specs.Setups.{setup_of, IsServable};
-ghost use Rattle.h2gw_setup.specs.Checks.{HasPlace, LacksCheck, Says};
+ghost use Rattle.h2gw_setup.specs.Checks.{HasAdmin, HasPlace, LacksCheck, Says};
 
 use crate::explaining::explain;
 use crate::figures::Figures;
-use crate::setting::{address_of, read_text};
+use crate::setting::{address_of, admin_of, read_text};
 use crate::stops::{Stop, report};
 use command_line::GatewayWords;
 use configuration::read_config;
 use gateway::{Config, Passing, Policy, Route};
 use std::io::{Eprint, Print};
+use std::net::SocketAddr;
 use std::rt::Files;
 use std::{io, str};
 
@@ -24,12 +25,30 @@ pub fn check<R: Files + Print + Eprint + AllocGlobal>(
 ) -> Result<u8, Stop>
     requires few { words.now.clients ≤ 1024 }
     ensures place { OnOk result (HasPlace (option_map string_bytes words.now.listen)) }
+    ensures admin { OnOk result (HasAdmin (option_map string_bytes words.now.admin)) }
     ensures status { IfOk result (λ status. status ≤ 3) }
-    ensures stops { IfErr result (λ stop. LacksCheck (option_map string_bytes words.now.listen) stop) }
+    ensures stops { IfErr result (λ stop. LacksCheck (option_map string_bytes words.now.listen) (option_map string_bytes words.now.admin) stop) }
 {
     address_of(words)?;
+    let admin = admin_of(words)?;
     let text = read_text(rt, &words.config)?;
-    check_text(rt, &text, words.clients)
+    let status = check_text(rt, &text, words.clients)?;
+    match admin {
+        Some(address) if status == 0 => say_admin(rt, address, words.grace),
+        _ => Ok(status),
+    }
+}
+
+/// Says where the operator's listener is, and what it takes beside that, behind what a configuration
+/// sets.
+fn say_admin<R: Print>(rt: &R, address: SocketAddr, grace: u32) -> Result<u8, Stop>
+    ensures status { IfOk result (λ status. status ≡ 0) }
+    ensures stops { IfErr result (λ stop. stop ≡ Stop.Print) }
+{
+    match println!(rt; "admin: {address}, with 5 open files more\ngrace: {grace} seconds") {
+        Ok(()) => Ok(0),
+        Err(_) => Err(Stop::Print),
+    }
 }
 
 /// The same for a configuration of this text, and so many clients at once.
@@ -41,7 +60,7 @@ pub fn check_text<R: Print + Eprint + AllocGlobal>(
     requires few { clients ≤ 1024 }
     ensures status { IfOk result (λ status. status ≤ 3) }
     ensures says { IfOk result (λ status. Says text.now status) }
-    ensures stops { IfErr result (λ stop. LacksCheck None stop) }
+    ensures stops { IfErr result (λ stop. LacksCheck None None stop) }
 {
     match read_config(rt.alloc(), text) {
         Ok(config) => match say_config(rt, &config, clients) {

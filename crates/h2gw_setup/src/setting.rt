@@ -6,10 +6,11 @@ ghost use Rattle.gateway.specs.Setups.{setup_of, IsServable};
 ghost use Rattle.configuration.specs.Configs.{Configures};
 ghost use Rattle.command_line.specs.Gateways.{Means};
 ghost use Rattle.h2gw_setup.specs.Addresses.{AreAddresses};
-ghost use Rattle.h2gw_setup.specs.Refusals.{LacksAddresses, LacksConfig, LacksSetting, LacksWords, IsPlace, IsNoPlace, IsTextStop, IsWordsStop};
+ghost use Rattle.h2gw_setup.specs.Refusals.{LacksAddresses, LacksConfig, LacksSetting, LacksWords, IsAdmin, IsNoAdmin, IsPlace, IsNoPlace, IsTextStop, IsWordsStop};
 ghost use Rattle.h2gw_setup.specs.Stops.{status_of};
 
 use crate::stops::Stop;
+use admin::is_for_loopback;
 use command_line::{GatewayWords, Word, read_arguments, read_gateway_words};
 use configuration::{ConfigFault, Key, read_config};
 use gateway::{Config, Route};
@@ -44,27 +45,35 @@ pub struct Setting {
     /// For how many seconds a connection to a server may then neither take nor give anything; 0 is
     /// for ever.
     pub answer: u32,
+    /// Where the program says how it is, and is told to come to its end, if anywhere: a loopback
+    /// address.
+    pub admin: Option<SocketAddr>,
+    /// For how many seconds clients may stay that are there then; 0 is for ever.
+    pub grace: u32,
     /// Exchanges with servers and connections are told of on standard error.
     pub is_logged: bool,
 }
 
-/// Reads the configuration that the words name: all else is as they say. The address is judged
-/// before the configuration is read.
+/// Reads the configuration that the words name: all else is as they say. The addresses are judged
+/// before the configuration is read, first the one to listen at.
 pub fn read_setting<R: Files + AllocGlobal>(rt: &R, words: &GatewayWords) -> Result<Setting, Stop>
     ensures servable { IfOk result (λ setting. IsServable (setup_of setting.config)) }
     ensures addresses { IfOk result (λ setting. AreAddresses setting.config.routes.items setting.addresses.items) }
     ensures listen { IfOk result (λ setting. IsPlace (option_map string_bytes words.now.listen) (Some setting.listen)) }
+    ensures admin { IfOk result (λ setting. IsAdmin (option_map string_bytes words.now.admin) setting.admin) }
     ensures counts { IfOk result (λ setting. (setting.connections ≡ words.now.connections) × (setting.turns ≡ words.now.turns)
         × (setting.clients ≡ words.now.clients) × (setting.idle ≡ words.now.idle) × (setting.keep_idle ≡ words.now.keep_idle)
-        × (setting.connect ≡ words.now.connect) × (setting.answer ≡ words.now.answer) × (setting.is_logged ≡ words.now.is_logged)) }
-    ensures stops { IfErr result (λ stop. LacksSetting (option_map string_bytes words.now.listen) stop) }
+        × (setting.connect ≡ words.now.connect) × (setting.answer ≡ words.now.answer) × (setting.grace ≡ words.now.grace)
+        × (setting.is_logged ≡ words.now.is_logged)) }
+    ensures stops { IfErr result (λ stop. LacksSetting (option_map string_bytes words.now.listen) (option_map string_bytes words.now.admin) stop) }
     ensures status { IfErr result (λ stop. status_of stop ≢ 2) }
 {
     let Some(listen) = address_of(words)? else {
         return Err(Stop::Missing(Word::Listen));
     };
+    let admin = admin_of(words)?;
     let text = read_text(rt, &words.config)?;
-    setting_of(rt.alloc(), words, listen, &text)
+    setting_of(rt.alloc(), words, listen, admin, &text)
 }
 
 /// The address to listen at, if there is one.
@@ -81,6 +90,20 @@ pub fn address_of(words: &GatewayWords) -> Result<Option<SocketAddr>, Stop>
     }
 }
 
+/// The address of the operator's listener, if there is one.
+pub fn admin_of(words: &GatewayWords) -> Result<Option<SocketAddr>, Stop>
+    ensures ok { IfOk result (λ address. IsAdmin (option_map string_bytes words.now.admin) address) }
+    ensures err { IfErr result (λ stop. (stop ≡ Stop.BadAdmin) × IsNoAdmin (option_map string_bytes words.now.admin)) }
+{
+    let Some(text) = &words.admin else {
+        return Ok(None);
+    };
+    match text.parse::<SocketAddr>() {
+        Ok(address) if is_for_loopback(&address) => Ok(Some(address)),
+        _ => Err(Stop::BadAdmin),
+    }
+}
+
 /// The text of the configuration that stands there.
 pub fn read_text<R: Files + AllocGlobal>(rt: &R, path: &str) -> Result<String, Stop>
     ensures { IfErr result (λ stop. IsTextStop stop) }
@@ -92,21 +115,23 @@ pub fn read_text<R: Files + AllocGlobal>(rt: &R, path: &str) -> Result<String, S
     }
 }
 
-/// What the program is set up with, where it listens at this address and its configuration has this
-/// text: all else is as the words say.
+/// What the program is set up with, where it listens at these addresses and its configuration has
+/// this text: all else is as the words say.
 fn setting_of(
     alloc: Global,
     words: &GatewayWords,
     listen: SocketAddr,
+    admin: Option<SocketAddr>,
     text: &str,
 ) -> Result<Setting, Stop>
     ensures configured { IfOk result (λ setting. Configures (parse_document text.now) setting.config) }
     ensures servable { IfOk result (λ setting. IsServable (setup_of setting.config)) }
     ensures addresses { IfOk result (λ setting. AreAddresses setting.config.routes.items setting.addresses.items) }
-    ensures listens { IfOk result (λ setting. setting.listen ≡ listen) }
+    ensures listens { IfOk result (λ setting. (setting.listen ≡ listen) × (setting.admin ≡ admin)) }
     ensures counts { IfOk result (λ setting. (setting.connections ≡ words.now.connections) × (setting.turns ≡ words.now.turns)
         × (setting.clients ≡ words.now.clients) × (setting.idle ≡ words.now.idle) × (setting.keep_idle ≡ words.now.keep_idle)
-        × (setting.connect ≡ words.now.connect) × (setting.answer ≡ words.now.answer) × (setting.is_logged ≡ words.now.is_logged)) }
+        × (setting.connect ≡ words.now.connect) × (setting.answer ≡ words.now.answer) × (setting.grace ≡ words.now.grace)
+        × (setting.is_logged ≡ words.now.is_logged)) }
     ensures stops { IfErr result (λ stop. LacksConfig text.now stop) }
 {
     let config = match read_config(alloc, text) {
@@ -125,6 +150,8 @@ fn setting_of(
         keep_idle: words.keep_idle,
         connect: words.connect,
         answer: words.answer,
+        admin,
+        grace: words.grace,
         is_logged: words.is_logged,
     })
 }

@@ -26,12 +26,16 @@ pub enum Stop {
     NotUtf8,
     /// The address to listen at isn't one.
     BadAddress,
+    /// The address of the operator's listener isn't one, or isn't a loopback address.
+    BadAdmin,
     /// The configuration can't be read, or isn't UTF-8, as the system says.
     NoConfig(io::Error),
     /// The configuration isn't taken.
     Config(ConfigFault),
     /// The address can't be bound, as the system says.
     Bind(io::Error),
+    /// That of the operator's listener can't be, as the system says.
+    BindAdmin(io::Error),
     /// A connection can't be accepted.
     Accept,
     /// A line can't be printed.
@@ -51,10 +55,10 @@ impl Stop {
                 _ => 1,
             },
             Stop::Missing(_) | Stop::MissingBoth | Stop::NotANumber(_) | Stop::NotUtf8 => 1,
-            Stop::BadAddress | Stop::NoConfig(_) => 1,
+            Stop::BadAddress | Stop::BadAdmin | Stop::NoConfig(_) => 1,
             Stop::Config(ConfigFault::Memory) => 3,
             Stop::Config(_) => 1,
-            Stop::Bind(_) | Stop::Accept | Stop::Print => 2,
+            Stop::Bind(_) | Stop::BindAdmin(_) | Stop::Accept | Stop::Print => 2,
             Stop::Memory => 3,
         }
     }
@@ -73,9 +77,11 @@ impl Stop {
             Stop::NotANumber(word) => Some(not_a_number(*word)),
             Stop::NotUtf8 => Some("arguments: not UTF-8"),
             Stop::BadAddress => Some("listen: bad address"),
+            Stop::BadAdmin => Some("admin: bad address"),
             Stop::NoConfig(_) => Some("config: cannot read"),
             Stop::Config(fault) => Some(fault.line()),
             Stop::Bind(_) => Some("listen: cannot bind"),
+            Stop::BindAdmin(_) => Some("admin: cannot bind"),
             Stop::Accept => Some("listen: cannot accept"),
             Stop::Memory => Some("no memory"),
         }
@@ -86,7 +92,7 @@ impl Stop {
         ensures { result ≡ reason_of self.now }
     {
         match self {
-            Stop::NoConfig(error) | Stop::Bind(error) => Some(*error),
+            Stop::NoConfig(error) | Stop::Bind(error) | Stop::BindAdmin(error) => Some(*error),
             _ => None,
         }
     }
@@ -107,6 +113,8 @@ fn missing(word: Word) -> &'static str
         Word::KeepIdle => "keep-idle: missing",
         Word::Connect => "connect: missing",
         Word::Answer => "answer: missing",
+        Word::Admin => "admin: missing",
+        Word::Grace => "grace: missing",
         Word::Log => "log: missing",
         Word::Check => "check: missing",
     }
@@ -127,6 +135,8 @@ fn not_a_number(word: Word) -> &'static str
         Word::KeepIdle => "keep-idle: not a number",
         Word::Connect => "connect: not a number",
         Word::Answer => "answer: not a number",
+        Word::Admin => "admin: not a number",
+        Word::Grace => "grace: not a number",
         Word::Log => "log: not a number",
         Word::Check => "check: not a number",
     }

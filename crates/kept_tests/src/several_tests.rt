@@ -48,6 +48,8 @@ fn setting_of(
         keep_idle: 0,
         connect: 0,
         answer: 0,
+        admin: None,
+        grace: 30,
         is_logged: false,
     })
 }

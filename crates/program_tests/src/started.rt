@@ -263,6 +263,7 @@ fn it_is_said_why_the_program_stops(rt: HostRuntime) {
         (Stop::NotANumber(Word::Turns), "turns: not a number\n", 1),
         (Stop::NotUtf8, "arguments: not UTF-8\n", 1),
         (Stop::BadAddress, "listen: bad address\n", 1),
+        (Stop::BadAdmin, "admin: bad address\n", 1),
         (Stop::MissingBoth, "config: missing\nlisten: missing\n", 1),
         (
             Stop::NoConfig(io::Error::from_raw_os_error(2)),
@@ -277,6 +278,11 @@ fn it_is_said_why_the_program_stops(rt: HostRuntime) {
         (
             Stop::Bind(io::Error::from_raw_os_error(98)),
             "listen: cannot bind\nAddress already in use (os error 98)\n",
+            2,
+        ),
+        (
+            Stop::BindAdmin(io::Error::from_raw_os_error(98)),
+            "admin: cannot bind\nAddress already in use (os error 98)\n",
             2,
         ),
         (Stop::Accept, "listen: cannot accept\n", 2),

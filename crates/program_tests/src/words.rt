@@ -90,6 +90,7 @@ fn the_gateway_reads_its_words(rt: HostRuntime) -> Result<(), Fail> {
                 (1, 0, 0, false)
             );
             assert_eq!(rt; (values.connect, values.answer), (0, 0));
+            assert_eq!(rt; (values.admin.as_deref(), values.grace), (None, 30));
         }
         Err(fault) => panic!(rt; "{fault:?}"),
     }
@@ -157,6 +158,8 @@ fn the_gateway_reads_how_many_clients_there_are(rt: HostRuntime) -> Result<(), F
         "--keep-idle",
         "60",
         "--answer=90",
+        "--admin=c",
+        "--grace=0",
         "--connect=3",
         "--turns=2",
     ];
@@ -172,6 +175,7 @@ fn the_gateway_reads_how_many_clients_there_are(rt: HostRuntime) -> Result<(), F
                 (1024, 30, 60, true)
             );
             assert_eq!(rt; (values.connect, values.answer), (3, 90));
+            assert_eq!(rt; (values.admin.as_deref(), values.grace), (Some("c"), 0));
         }
         Err(fault) => panic!(rt; "{fault:?}"),
     }
@@ -195,6 +199,10 @@ fn the_gateway_reads_how_many_clients_there_are(rt: HostRuntime) -> Result<(), F
     }
     match read_with(rt.alloc(), "--answer=") {
         Err(WordsFault::NotANumber(Word::Answer)) => {}
+        _ => panic!(rt; "no number, and taken"),
+    }
+    match read_with(rt.alloc(), "--grace=x") {
+        Err(WordsFault::NotANumber(Word::Grace)) => {}
         _ => panic!(rt; "no number, and taken"),
     }
     Ok(())

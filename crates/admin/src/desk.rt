@@ -1,6 +1,6 @@
 //! The listener, and its connections.
 
-ghost use Rattle.std.specs.Prelude.{◌≡◌, ◌≤◌, ◌<◌, ◌↔◌, ◌⊎◌, ◌+◌, ◌-◌, ◌*◌, All, IsTrue, IfSome, IfNone, is_some, false, slice_get, ⊥, ℕ};
+ghost use Rattle.std.specs.Prelude.{◌≡◌, ◌≤◌, ◌<◌, ◌↔◌, ◌⊎◌, ◌+◌, ◌-◌, ◌*◌, All, IsTrue, IfSome, IfNone, is_some, false, slice_get, ℕ};
 ghost use Rattle.std.specs.List.{list_any};
 ghost use Rattle.std.specs.Time.{instant_nanos};
 ghost use Rattle.mio.specs.Event.{event_token};
